@@ -1,0 +1,148 @@
+-- Numbers of equal widths, one behind the other.
+use mathlib.Core.Path.{_≡_, refl, sym, ap, ap₂, subst, _∙_}
+use mathlib.Core.List.{List, [], _∷_, _++_}
+use mathlib.Core.Logic.{_⊎_, inl, inr, ⊎-elim}
+use mathlib.Core.Bool.{Bool, true, false, cond, _&&_, _||_, not}
+use Prim.Native.Nat.{ℕ, zero, suc, _+_, _-_, _*_, _/_, _%_, _<_, _≤_}
+use native.Mathlib.Nat.{add-zero, add-assoc}
+use native.Mathlib.Omega.{arith}
+use lib.Dec.{eqb, ltb, leb}
+use lib.ListN.{length, drop, getD, length-drop}
+use Rattle.std.specs.Options.{isSome, valueOr}
+use Rattle.std.specs.declared.option.Option.{Option}
+use Rattle.std.specs.declared.option.Option.the-variants.{Some, None}
+use Rattle.std.proofs.shelf.Lists.{drop-drop}
+use Rattle.std.proofs.shelf.Tests.{cond-true, cond-false, eq-eqb, ne-eqb, lt-ltb, and-from, false≢true}
+use Rattle.command_list.specs.declared.command.Barrier.{Barrier}
+use Rattle.command_list.specs.declared.command.BarrierType.{BarrierType}
+use Rattle.command_list.specs.declared.code.Code.the-variants as code
+use Rattle.command_list.specs.Numbers.{numberAt, numbers}
+use Rattle.command_list.specs.Commands.{Command, BeginEvent, OMSetRenderTargets, ResourceBarrier, endsWithZero}
+use Rattle.command_list.specs.Decoding.{repeated, typeOf, barriers, then, Decoded, takes, wrong, checked, decode}
+use Rattle.command_list.proofs.Places.{number-1}
+use Rattle.command_list.specs.Seen.{every, entryNumbers, entriesOf}
+
+pub none-some : {A : Type 0} {a : A} → None ≡ Some a → ⊥
+none-some e = false≢true (ap isSome e)
+
+pub then-is : {A B : Type 0} (o : Option A) (f : A → Option B) (b : B) → then o f ≡ Some b → (a : A) × (o ≡ Some a) × (f a ≡ Some b)
+then-is None f b e = absurd (none-some e)
+then-is (Some a) f b e = (a, refl, e)
+
+-- from a place on is as from the start of what follows the place
+pub numbers-shift : (ws : List ℕ) (k at : ℕ) (bs : List ℕ) → numbers ws (k + at) bs ≡ numbers ws at (drop k bs)
+unfolding numberAt
+numbers-shift [] k at bs = refl
+numbers-shift (w ∷ ws) k at bs =
+    ap₂ (λ x l. x ∷ l) (ap (λ l. numberAt w 0 l) (sym (drop-drop at k bs)))
+    (ap (λ n. numbers ws n bs) (add-assoc k at w) ∙ numbers-shift ws k (at + w) bs)
+
+pub length-numbers : (ws : List ℕ) (at : ℕ) (bs : List ℕ) → length (numbers ws at bs) ≡ length ws
+length-numbers [] at bs = refl
+length-numbers (w ∷ ws) at bs = ap suc (length-numbers ws (at + w) bs)
+
+pub length-repeated : (n w : ℕ) → length (repeated n (w ∷ [])) ≡ n
+length-repeated zero w = refl
+length-repeated (suc n) w = ap suc (length-repeated n w)
+
+pub length-every : (w : ℕ) (bs : List ℕ) → length (every w bs) ≡ length bs / w
+length-every w bs = length-numbers (repeated (length bs / w) (w ∷ [])) 0 bs ∙ length-repeated (length bs / w) w
+
+-- the last of some units
+ends-at : (n at : ℕ) (bs : List ℕ) → endsWithZero (numbers (repeated (suc n) (2 ∷ [])) at bs) ≡ eqb (numberAt 2 (at + 2 * n) bs) 0
+ends-at zero at bs = ap (λ k. eqb (numberAt 2 k bs) 0) (sym (add-zero at))
+ends-at (suc n) at bs = ends-at n (at + 2) bs ∙ ap (λ k. eqb (numberAt 2 k bs) 0) (omega arith)
+
+pub units-end : (bs : List ℕ) → 0 < length bs → length bs % 2 ≡ 0 → endsWithZero (every 2 bs) ≡ eqb (numberAt 2 (length bs - 2) bs) 0
+units-end bs h e =
+    let n : ℕ = length bs / 2 - 1 in
+    let s : length bs / 2 ≡ suc n = omega arith in
+    ap (λ k. endsWithZero (numbers (repeated k (2 ∷ [])) 0 bs)) s ∙ ends-at n 0 bs ∙ ap (λ k. eqb (numberAt 2 k bs) 0) (omega arith)
+
+pub decode-event : (bs : List ℕ) → 0 < length bs → length bs % 2 ≡ 0 → decode code.BeginEvent bs ≡ cond (eqb (numberAt 2 (length bs - 2) bs) 0) (takes (BeginEvent (every 2 bs))) (wrong 25)
+decode-event bs h e =
+    cond-true _ _ _ (and-from _ _ (lt-ltb 0 (length bs) h) (eq-eqb (length bs % 2) 0 e))
+    ∙ ap (λ t. cond t (takes (BeginEvent (every 2 bs))) (wrong 25)) (units-end bs h e)
+
+-- the handles behind their count
+handles-behind : (n : ℕ) (bs : List ℕ) → length bs ≡ 1 + 8 * n → numbers (repeated (length bs / 8) (8 ∷ [])) 1 bs ≡ every 8 (drop 1 bs)
+handles-behind n bs e =
+    let same : length bs / 8 ≡ length (drop 1 bs) / 8 = simp length-drop (omega arith) in
+    numbers-shift (repeated (length bs / 8) (8 ∷ [])) 1 0 bs ∙ ap (λ k. numbers (repeated k (8 ∷ [])) 0 (drop 1 bs)) same
+
+pub decode-targets : (n : ℕ) (bs : List ℕ) → n ≡ getD bs 0 0 → length bs ≡ 1 + 8 * n → decode code.OMSetRenderTargets bs ≡ cond (leb n 8) (takes (OMSetRenderTargets (every 8 (drop 1 bs)))) (wrong 25)
+decode-targets n bs f e =
+    let hs : List ℕ = numbers (repeated (length bs / 8) (8 ∷ [])) 1 bs in
+    let many : length (every 8 (drop 1 bs)) ≡ n = length-every 8 (drop 1 bs) ∙ simp length-drop (omega arith) in
+    cond-true _ _ _ (eq-eqb (length bs) (1 + 8 * getD bs 0 0) (omega arith))
+    ∙ ap (λ l. cond (leb (length l) 8) (takes (OMSetRenderTargets l)) (wrong 25)) (handles-behind n bs e)
+    ∙ ap (λ k. cond (leb k 8) (takes (OMSetRenderTargets (every 8 (drop 1 bs)))) (wrong 25)) many
+
+-- barriers from their numbers, one on
+then-some : (o : Option BarrierType) (p : Option (List Barrier)) (f : BarrierType → List Barrier → List Barrier) → isSome (then o (λ k. then p (λ es. Some (f k es)))) ≡ (isSome o && isSome p)
+then-some None p f = refl
+then-some (Some k) None f = refl
+then-some (Some k) (Some es) f = refl
+
+abbrev five : List ℕ
+five = 1 ∷ 4 ∷ 4 ∷ 4 ∷ 4 ∷ []
+
+-- whether all entries from a place on have a type that is known
+pub knownFrom : ℕ → List ℕ → Bool
+knownFrom at bs = isSome (barriers (numbers (repeated ((length bs - at) / 17) five) at bs))
+
+pub known-more : (at : ℕ) (bs : List ℕ) → at < length bs → length bs % 17 ≡ 0 → at % 17 ≡ 0 → knownFrom at bs ≡ (isSome (typeOf (getD bs at 0)) && knownFrom (at + 17) bs)
+unfolding knownFrom
+known-more at bs l m n =
+    let e : (length bs - at) / 17 ≡ suc ((length bs - (at + 17)) / 17) = omega arith in
+    let rest : List ℕ = numbers (repeated ((length bs - (at + 17)) / 17) five) (at + 17) bs in
+    let far : at + 1 + 4 + 4 + 4 + 4 ≡ at + 17 = omega arith in
+    ap (λ k. isSome (barriers (numbers (repeated k five) at bs))) e
+    ∙ ap (λ k. isSome (barriers (numberAt 1 at bs ∷ numberAt 4 (at + 1) bs ∷ numberAt 4 (at + 1 + 4) bs ∷ numberAt 4 (at + 1 + 4 + 4) bs ∷ numberAt 4 (at + 1 + 4 + 4 + 4) bs ∷ numbers (repeated ((length bs - (at + 17)) / 17) five) k bs))) far
+    ∙ then-some (typeOf (numberAt 1 at bs)) (barriers rest) _
+    ∙ ap (λ t. isSome (typeOf t) && isSome (barriers rest)) (number-1 at bs (omega arith))
+
+pub known-end : (at : ℕ) (bs : List ℕ) → length bs ≤ at → knownFrom at bs ≡ true
+unfolding knownFrom
+known-end at bs l = let e : (length bs - at) / 17 ≡ 0 = omega arith in ap (λ k. isSome (barriers (numbers (repeated k five) at bs))) e
+
+pub known-start : (bs : List ℕ) → knownFrom 0 bs ≡ isSome (barriers (entryNumbers bs))
+unfolding knownFrom
+known-start bs = ap (λ k. isSome (barriers (numbers (repeated k five) 0 bs))) (omega arith)
+
+type-known : (t : ℕ) → (t ≡ 0) ⊎ (t ≡ 2) → isSome (typeOf t) ≡ true
+type-known t w = ⊎-elim (λ e. ap (λ k. isSome (typeOf k)) e) (λ e. ap (λ k. isSome (typeOf k)) e) w
+
+type-unknown : (t : ℕ) → (t ≡ 0 → ⊥) → (t ≡ 2 → ⊥) → isSome (typeOf t) ≡ false
+type-unknown t p q = ap isSome (cond-false _ _ _ (ne-eqb t 0 p) ∙ cond-false _ _ _ (ne-eqb t 2 q))
+
+pub known-pass : (at : ℕ) (bs : List ℕ) → at < length bs → length bs % 17 ≡ 0 → at % 17 ≡ 0 → (getD bs at 0 ≡ 0) ⊎ (getD bs at 0 ≡ 2) → knownFrom (at + 17) bs ≡ knownFrom at bs
+known-pass at bs l m n w = sym (known-more at bs l m n ∙ ap (λ t. t && knownFrom (at + 17) bs) (type-known _ w))
+
+pub known-fail : (at : ℕ) (bs : List ℕ) → at < length bs → length bs % 17 ≡ 0 → at % 17 ≡ 0 → (getD bs at 0 ≡ 0 → ⊥) → (getD bs at 0 ≡ 2 → ⊥) → false ≡ knownFrom at bs
+known-fail at bs l m n p q = sym (known-more at bs l m n ∙ ap (λ t. t && knownFrom (at + 17) bs) (type-unknown _ p q))
+
+-- as many barriers as entries
+pub count-barriers : (n at : ℕ) (bs : List ℕ) (es : List Barrier) → barriers (numbers (repeated n five) at bs) ≡ Some es → length es ≡ n
+count-barriers zero at bs es e = ap length (some-same (sym e))
+  where
+    some-same : {x y : List Barrier} → Some x ≡ Some y → x ≡ y
+    some-same p = cc
+count-barriers (suc n) at bs es e =
+    let a = then-is (typeOf (numberAt 1 at bs)) _ es e in
+    let b = then-is (barriers (numbers (repeated n five) (at + 1 + 4 + 4 + 4 + 4) bs)) _ es (a .2) in
+    let same = some-same (b .2) in
+    sym (ap length same) ∙ ap suc (count-barriers n (at + 1 + 4 + 4 + 4 + 4) bs (b .0) (b .1))
+  where
+    some-same : {x y : List Barrier} → Some x ≡ Some y → x ≡ y
+    some-same p = cc
+
+taken-barriers : (o : Option (List Barrier)) → ((es : List Barrier) → o ≡ Some es → 0 < length es)
+    → checked (then o (λ es. Some (ResourceBarrier es))) ≡ cond (isSome o) (takes (ResourceBarrier (valueOr o []))) (wrong 25)
+taken-barriers None h = refl
+taken-barriers (Some es) h = cond-true _ _ _ (lt-ltb 0 (length es) (h es refl))
+
+pub decode-barriers : (bs : List ℕ) → 0 < length bs → length bs % 17 ≡ 0 → decode code.ResourceBarrier bs ≡ cond (isSome (barriers (entryNumbers bs))) (takes (ResourceBarrier (entriesOf bs))) (wrong 25)
+decode-barriers bs h e =
+    cond-true _ _ _ (and-from _ _ (lt-ltb 0 (length bs) h) (eq-eqb (length bs % 17) 0 e))
+    ∙ taken-barriers (barriers (entryNumbers bs)) (λ es s. let n = count-barriers (length bs / 17) 0 bs es s in omega arith)

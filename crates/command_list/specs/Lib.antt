@@ -1,0 +1,6 @@
+pub mod Numbers
+pub mod Commands
+pub mod Decoding
+pub mod Files
+pub mod Seen
+pub mod Writing

@@ -1,0 +1,8 @@
+// The list file: commands as records of bytes, read and written.
+pub mod code;
+pub mod command;
+pub mod fault;
+mod fields;
+mod operands;
+pub mod reader;
+pub mod record;
