@@ -26,6 +26,18 @@ pub trait Operands {
         ensures { λ r. ⌜ Laid (row self) (now (out .entry)) (now (out .exit)) r ⌝ };
 }
 
+pub impl Operands for () as NoOperands {
+    ghost row = { λ _. [] };
+
+    fn width(&self) -> usize {
+        0
+    }
+
+    fn lay(self, _out: &mut [u8]) -> usize {
+        0
+    }
+}
+
 pub impl Operands for u8 as ByteOperands {
     ghost row = { λ b. field 1 b ∷ [] };
 

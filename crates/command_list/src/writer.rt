@@ -1,0 +1,200 @@
+// Writes records into the unused end of the caller's bytes.
+ghost use mathlib.Core.Path.{_≡_};
+ghost use mathlib.Core.Bool.{true};
+ghost use Prim.Native.Nat.{ℕ, _<_};
+ghost use lib.ListN.{length};
+ghost use Rattle.command_list.specs.Numbers.{total};
+ghost use Rattle.command_list.specs.Commands.{ofHalf, kindByte, specialByte, inRange, codeOf, fields};
+ghost use Rattle.command_list.specs.Seen.{fixedCommand};
+ghost use Rattle.command_list.specs.Writing.{Appended};
+use crate::code::Code;
+use crate::command::Fixed;
+use crate::command::Half;
+use crate::fault::FULL;
+use crate::fault::Fault;
+use crate::operands::ByteOperands;
+use crate::operands::LongOperands;
+use crate::operands::NoOperands;
+use crate::operands::Operands;
+use crate::operands::PairOperands;
+use crate::operands::ShortOperands;
+use crate::operands::WordOperands;
+use crate::reader::MOST_BYTES;
+
+// Writes the record of a code and its operands behind the first `end` bytes, and says where it ends.
+fn append_row<O: Operands + Copy>(bytes: &mut [u8], end: usize, code: Code, operands: O) -> Result<usize, Fault>
+    requires { ⌜ total (O·Operands .row operands) < 65535 ⌝ }
+    ensures { λ r. ⌜ Appended (now (bytes .entry)) end code (O·Operands .row operands) r (now (bytes .exit)) ⌝ }
+{
+    let size = 3 + operands.width();
+    let room = bytes.len().min(MOST_BYTES);
+    if room < end || room - end < size {
+        return Err(FULL);
+    }
+    let row = ((size - 2) as u16, (code.byte(), operands));
+    let _ = row.lay(&mut bytes[end..]);
+    Ok(end + size)
+}
+
+// The code of a call that each half has for itself.
+fn of_half(half: Half, graphics: Code, compute: Code) -> Code
+    ensures { λ r. ⌜ r ≡ ofHalf half graphics compute ⌝ }
+{
+    match half {
+        Half::Graphics => graphics,
+        Half::Compute => compute,
+    }
+}
+
+// The byte of an indirect call's kind.
+fn kind_byte(half: Half) -> u8
+    ensures { λ r. ⌜ r ≡ kindByte half ⌝ }
+{
+    match half {
+        Half::Graphics => 0,
+        Half::Compute => 2,
+    }
+}
+
+// The byte of a special slot.
+fn special_byte(special: Option<u8>) -> u8
+    ensures { λ r. ⌜ r ≡ specialByte special ⌝ }
+{
+    match special {
+        None => 255,
+        Some(slot) => slot,
+    }
+}
+
+// Whether slots and words are in range.
+fn in_range(fixed: Fixed) -> bool
+    ensures { λ r. ⌜ r ≡ inRange (fixedCommand fixed) ⌝ }
+{
+    match fixed {
+        Fixed::IASetVertexBuffers { slot, .. } => slot < 16,
+        Fixed::SetRoot32BitConstant { slot, word, .. } => slot < 64 && word < 64,
+        Fixed::SetRootDescriptorTable { slot, .. } => slot < 64,
+        Fixed::SetRootConstantBufferView { slot, .. } => slot < 64,
+        Fixed::ExecuteIndirect {
+            special: Some(slot), ..
+        } => slot < 64,
+        _ => true,
+    }
+}
+
+fn append_fixed(bytes: &mut [u8], end: usize, fixed: Fixed) -> Result<usize, Fault>
+    ensures { λ r. ⌜ Appended (now (bytes .entry)) end (codeOf (fixedCommand fixed)) (fields (fixedCommand fixed)) r (now (bytes .exit)) ⌝ }
+{
+    match fixed {
+        Fixed::EndEvent => append_row(bytes, end, Code::EndEvent, ()),
+        Fixed::SetDescriptorHeaps(on) => {
+            append_row(bytes, end, Code::SetDescriptorHeaps, u8::from(on))
+        }
+        Fixed::SetRootSignature { half, signature } => {
+            let code = of_half(
+                half,
+                Code::SetGraphicsRootSignature,
+                Code::SetComputeRootSignature,
+            );
+            append_row(bytes, end, code, signature)
+        }
+        Fixed::SetPipelineState(pipeline) => {
+            append_row(bytes, end, Code::SetPipelineState, pipeline)
+        }
+        Fixed::IASetPrimitiveTopology(topology) => {
+            append_row(bytes, end, Code::IASetPrimitiveTopology, topology)
+        }
+        Fixed::IASetVertexBuffers {
+            slot,
+            address,
+            size,
+            stride,
+        } => append_row(
+            bytes,
+            end,
+            Code::IASetVertexBuffers,
+            (slot, (address, (size, stride))),
+        ),
+        Fixed::SetRoot32BitConstant {
+            half,
+            slot,
+            word,
+            value,
+        } => {
+            let code = of_half(
+                half,
+                Code::SetGraphicsRoot32BitConstant,
+                Code::SetComputeRoot32BitConstant,
+            );
+            append_row(bytes, end, code, (slot, (word, value)))
+        }
+        Fixed::SetRootDescriptorTable {
+            half,
+            slot,
+            address,
+        } => {
+            let code = of_half(
+                half,
+                Code::SetGraphicsRootDescriptorTable,
+                Code::SetComputeRootDescriptorTable,
+            );
+            append_row(bytes, end, code, (slot, address))
+        }
+        Fixed::SetRootConstantBufferView {
+            half,
+            slot,
+            address,
+        } => {
+            let code = of_half(
+                half,
+                Code::SetGraphicsRootConstantBufferView,
+                Code::SetComputeRootConstantBufferView,
+            );
+            append_row(bytes, end, code, (slot, address))
+        }
+        Fixed::ClearRenderTargetView { target, colour } => {
+            let [r, g, b, a] = colour;
+            let row = (target, (r, (g, (b, a))));
+            append_row(bytes, end, Code::ClearRenderTargetView, row)
+        }
+        Fixed::RSSetViewports(viewport) => {
+            let [x, y, width, height, near, far] = viewport;
+            let row = (x, (y, (width, (height, (near, far)))));
+            append_row(bytes, end, Code::RSSetViewports, row)
+        }
+        Fixed::RSSetScissorRects {
+            left,
+            top,
+            right,
+            bottom,
+        } => append_row(
+            bytes,
+            end,
+            Code::RSSetScissorRects,
+            (left, (top, (right, bottom))),
+        ),
+        Fixed::DrawInstanced {
+            vertices,
+            instances,
+            first_vertex,
+            first_instance,
+        } => append_row(
+            bytes,
+            end,
+            Code::DrawInstanced,
+            (vertices, (instances, (first_vertex, first_instance))),
+        ),
+        Fixed::Dispatch { x, y, z } => append_row(bytes, end, Code::Dispatch, (x, (y, z))),
+        Fixed::ExecuteIndirect {
+            half,
+            special,
+            count,
+            buffer,
+            offset,
+        } => {
+            let call = (kind_byte(half), special_byte(special));
+            let row = (call, (count, (buffer, offset)));
+            append_row(bytes, end, Code::ExecuteIndirect, row)
+        }
+    }
+}
