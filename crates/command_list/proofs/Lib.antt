@@ -3,3 +3,5 @@ pub mod Places
 pub mod Runs
 pub mod Fronts
 pub mod Growing
+pub mod Bytewise
+pub mod Trips
