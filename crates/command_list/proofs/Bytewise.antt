@@ -51,11 +51,10 @@ numbers-bytes (f ∷ fs) h =
     ap₂ (λ x xs. x ∷ xs) here rest
 
 -- what is read is written again
-pub Bytes : List ℕ → Type 0
+abbrev pub Bytes : List ℕ → Type 0
 Bytes bs = (i : ℕ) → getD bs i 0 < 256
 
 pub bytes-drop : (k : ℕ) (bs : List ℕ) → Bytes bs → Bytes (drop k bs)
-unfolding Bytes
 bytes-drop k bs h i = subst (λ n. n < 256) (sym (getD-drop k bs i 0)) (h (k + i))
 
 -- the bytes of a number do not see what is above them
@@ -83,11 +82,9 @@ first-of : (d : ℕ) (ds : List ℕ) → number 256 (d ∷ ds) ≡ d * 256 ^ len
 first-of d ds = after-split (0 * 256 + d) ds ∙ ap (λ k. k * 256 ^ length ds + number 256 ds) (omega arith)
 
 bytes-rest : (d : ℕ) (ds : List ℕ) → Bytes (d ∷ ds) → Bytes ds
-unfolding Bytes
 bytes-rest d ds h i = h (suc i)
 
 bytes-first : (d : ℕ) (ds : List ℕ) → Bytes (d ∷ ds) → d < 256
-unfolding Bytes
 bytes-first d ds h = h 0
 
 pub number-small : (ds : List ℕ) → Bytes ds → number 256 ds < 256 ^ length ds
@@ -110,7 +107,6 @@ be-number (d ∷ ds) h =
     ap (be (suc (length ds))) (first-of d ds) ∙ ap₂ (λ x xs. x ∷ xs) one (be-above (length ds) d n ∙ be-number ds (bytes-rest d ds h))
 
 pub bytes-take : (n : ℕ) (bs : List ℕ) → Bytes bs → Bytes (take n bs)
-unfolding Bytes
 bytes-take n bs h i =
     ⊎-elim {A = i < n} {B = n ≤ i} (λ l. subst (λ x. x < 256) (sym (getD-take n bs i 0 l)) (h i))
     (λ l. subst (λ x. x < 256) (sym (getD-past (take n bs) i 0 (simp length-take (omega arith)))) (omega arith)) (cases-lt i n)

@@ -5,3 +5,4 @@ pub mod Fronts
 pub mod Growing
 pub mod Bytewise
 pub mod Trips
+pub mod Whole

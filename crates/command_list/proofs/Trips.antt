@@ -228,7 +228,8 @@ fixed-back k ws d c ops q w v l b e = back-by k ws d c ops q w v (sym (eqb-true 
 several-length : (w n : ℕ) (ws : List ℕ) → sum ws ≡ w → (ltb 0 n && eqb (n % w) 0) ≡ true → sum (repeated (n / w) ws) ≡ n
 several-length w n ws s t =
     let z : n % w ≡ 0 = eqb-true (n % w) 0 (and-parts _ _ t .1) in
-    sum-repeated (n / w) ws ∙ ap (λ k. n / w * k) s ∙ omega (arith, div-add-mod' n w)
+    let d = div-add-mod' n w in
+    sum-repeated (n / w) ws ∙ ap (λ k. n / w * k) s ∙ omega arith
 
 backs : (k : Code) (ops : List ℕ) (c : Command) → Bytes ops → lengthRight (shape k) (length ops) (getD ops 0 0) ≡ true → named k (numbers (widthsOf (shape k) (length ops)) 0 ops) ≡ Some c → Backs k ops c
 backs code.BeginEvent ops c b l e =
