@@ -6,3 +6,4 @@ pub mod Growing
 pub mod Bytewise
 pub mod Trips
 pub mod Whole
+pub mod Readable

@@ -14,6 +14,8 @@ use Rattle.command_list.specs.declared.fault.Number.the-variants as number
 use Rattle.command_list.specs.declared.command.Barrier.{Barrier}
 use Rattle.command_list.specs.declared.command.Fixed.{Fixed}
 use Rattle.command_list.specs.declared.command.Fixed.the-variants as fixed
+use Rattle.command_list.specs.declared.command.Command.{Command as Given}
+use Rattle.command_list.specs.declared.command.Command.the-variants as given
 use Rattle.command_list.specs.declared.record.Record.{Record}
 use Rattle.command_list.specs.declared.record.Record.the-variants as record′
 use Rattle.command_list.specs.Numbers.{numbers}
@@ -56,6 +58,13 @@ fixedCommand (fixed.RSSetScissorRects l t r b) = RSSetScissorRects l t r b
 fixedCommand (fixed.DrawInstanced a b c d) = DrawInstanced a b c d
 fixedCommand (fixed.Dispatch x y z) = Dispatch x y z
 fixedCommand (fixed.ExecuteIndirect h s n b o) = ExecuteIndirect h s n b o
+
+-- a command that is given to be written
+abbrev pub givenCommand : Given → Command
+givenCommand (given.BeginEvent us) = BeginEvent (us .now)
+givenCommand (given.OMSetRenderTargets hs) = OMSetRenderTargets (hs .now)
+givenCommand (given.ResourceBarrier es) = ResourceBarrier (es .now)
+givenCommand (given.Fixed f) = fixedCommand f
 
 -- the numbers of one width that bytes hold
 abbrev pub every : ℕ → List ℕ → List ℕ

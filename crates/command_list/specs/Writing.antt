@@ -58,3 +58,21 @@ pub record Unwritten (c : Command) (xs : List ℕ) (n : ℕ) (f : Fault) (ys : L
 abbrev pub Written : Command → List ℕ → ℕ → Result ℕ Fault → List ℕ → Type 0
 Written c xs n (Ok m) ys = Wrote c xs n m ys
 Written c xs n (Err f) ys = Unwritten c xs n f ys
+
+-- a list without commands was begun: its version stands first, and what is beyond it stays
+pub record Began (xs : List ℕ) (n : ℕ) (ys : List ℕ) : Type 0 where
+  pub some : 0 < length xs
+  pub short : length xs ≤ 65536
+  pub ends : n ≡ 1
+  pub wrote : ys ≡ 1 ∷ drop 1 xs
+  pub reads : file (take n ys) ≡ accepted []
+
+-- there are no bytes, or more than a list may have; nothing was written
+pub record Unbegun (xs : List ℕ) (f : Fault) (ys : List ℕ) : Type 0 where
+  pub fault : IsFault f 10 0
+  pub why : 0 < length xs → length xs ≤ 65536 → ⊥
+  pub same : ys ≡ xs
+
+abbrev pub Begun : List ℕ → Result ℕ Fault → List ℕ → Type 0
+Begun xs (Ok n) ys = Began xs n ys
+Begun xs (Err f) ys = Unbegun xs f ys

@@ -6,4 +6,4 @@ mod fields;
 mod operands;
 pub mod reader;
 pub mod record;
-mod writer;
+pub mod writer;

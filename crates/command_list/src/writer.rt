@@ -4,22 +4,38 @@ ghost use mathlib.Core.Bool.{true};
 ghost use Prim.Native.Nat.{ℕ, _<_};
 ghost use lib.ListN.{length};
 ghost use Rattle.command_list.specs.Numbers.{total};
-ghost use Rattle.command_list.specs.Commands.{ofHalf, kindByte, specialByte, inRange, codeOf, fields};
-ghost use Rattle.command_list.specs.Seen.{fixedCommand};
-ghost use Rattle.command_list.specs.Writing.{Appended};
+ghost use Rattle.command_list.specs.Commands.{ofHalf, kindByte, specialByte, endsWithZero, inRange, readable, codeOf, fields};
+ghost use Rattle.command_list.specs.Seen.{fixedCommand, givenCommand};
+ghost use Rattle.command_list.specs.Writing.{Appended, Begun, Written};
 use crate::code::Code;
+use crate::command::Command;
 use crate::command::Fixed;
 use crate::command::Half;
 use crate::fault::FULL;
 use crate::fault::Fault;
+use crate::operands::BarrierEntry;
 use crate::operands::ByteOperands;
+use crate::operands::HandleEntry;
+use crate::operands::ListOperands;
 use crate::operands::LongOperands;
 use crate::operands::NoOperands;
 use crate::operands::Operands;
 use crate::operands::PairOperands;
 use crate::operands::ShortOperands;
+use crate::operands::UnitEntry;
 use crate::operands::WordOperands;
 use crate::reader::MOST_BYTES;
+
+// Begins a list in the caller's bytes, of which there are 1 to 65536, and says where it ends.
+pub fn begin(bytes: &mut [u8]) -> Result<usize, Fault>
+    ensures { λ r. ⌜ Begun (now (bytes .entry)) r (now (bytes .exit)) ⌝ }
+{
+    if bytes.len() == 0 || bytes.len() > MOST_BYTES {
+        return Err(FULL);
+    }
+    bytes[0] = 1;
+    Ok(1)
+}
 
 // Writes the record of a code and its operands behind the first `end` bytes, and says where it ends.
 fn append_row<O: Operands + Copy>(bytes: &mut [u8], end: usize, code: Code, operands: O) -> Result<usize, Fault>
@@ -196,5 +212,47 @@ fn append_fixed(bytes: &mut [u8], end: usize, fixed: Fixed) -> Result<usize, Fau
             let row = (call, (count, (buffer, offset)));
             append_row(bytes, end, Code::ExecuteIndirect, row)
         }
+    }
+}
+
+// Whether the last of some units is 0.
+fn ends_with_zero(units: &[u16]) -> bool
+    ensures { λ r. ⌜ r ≡ endsWithZero (now (units .entry)) ⌝ }
+{
+    let n = units.len();
+    n > 0 && units[n - 1] == 0
+}
+
+// Whether a command has a record that the reader takes.
+fn is_readable(command: Command) -> bool
+    ensures { λ r. ⌜ r ≡ readable (givenCommand (command .entry)) ⌝ }
+{
+    match command {
+        Command::BeginEvent(units) => ends_with_zero(units) && units.len() <= 32767,
+        Command::OMSetRenderTargets(handles) => handles.len() <= 8,
+        Command::ResourceBarrier(entries) => entries.len() > 0 && entries.len() <= 3854,
+        Command::Fixed(fixed) => in_range(fixed),
+    }
+}
+
+// Writes a command's record behind the first `end` bytes, and says where it ends.
+pub fn append(bytes: &mut [u8], end: usize, command: Command) -> Result<usize, Fault>
+    ensures { λ r. ⌜ Written (givenCommand (command .entry)) (now (bytes .entry)) end r (now (bytes .exit)) ⌝ }
+{
+    if !is_readable(command) {
+        return Err(FULL);
+    }
+    match command {
+        Command::BeginEvent(units) => append_row(bytes, end, Code::BeginEvent, units),
+        Command::OMSetRenderTargets(handles) => append_row(
+            bytes,
+            end,
+            Code::OMSetRenderTargets,
+            (handles.len() as u8, handles),
+        ),
+        Command::ResourceBarrier(entries) => {
+            append_row(bytes, end, Code::ResourceBarrier, entries)
+        }
+        Command::Fixed(fixed) => append_fixed(bytes, end, fixed),
     }
 }
