@@ -7,3 +7,4 @@ pub mod Bytewise
 pub mod Trips
 pub mod Whole
 pub mod Readable
+pub mod Parts

@@ -63,7 +63,7 @@ readable-barriers es =
     let t = total-entries entry 17 (λ e. refl) es in
     ap (λ x. ltb 0 (length es) && x) (fewer (total (joined entry es)) (length es) 3854 65535 ((λ l. omega arith), (λ l. omega arith)))
 
-and-true : (t : Bool) → (t && true) ≡ t
+pub and-true : (t : Bool) → (t && true) ≡ t
 and-true true = refl
 and-true false = refl
 

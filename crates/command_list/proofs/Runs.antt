@@ -4,14 +4,16 @@ use mathlib.Core.List.{List, [], _∷_, _++_}
 use mathlib.Core.Logic.{_⊎_, inl, inr, ⊎-elim}
 use mathlib.Core.Bool.{Bool, true, false, cond, _&&_, _||_, not}
 use Prim.Native.Nat.{ℕ, zero, suc, _+_, _-_, _*_, _/_, _%_, _<_, _≤_}
-use native.Mathlib.Nat.{add-zero, add-assoc}
+use native.Mathlib.Nat.{add-zero, add-assoc, mul-zero, mul-suc}
 use native.Mathlib.Omega.{arith}
 use lib.Dec.{eqb, ltb, leb}
 use lib.ListN.{length, drop, getD, length-drop}
+use Rattle.std.specs.Finite.{nth}
 use Rattle.std.specs.Options.{isSome, valueOr}
 use Rattle.std.specs.declared.option.Option.{Option}
 use Rattle.std.specs.declared.option.Option.the-variants.{Some, None}
 use Rattle.std.proofs.shelf.Lists.{drop-drop}
+use Rattle.std.proofs.shelf.Maps.{nth-past}
 use Rattle.std.proofs.shelf.Tests.{cond-true, cond-false, eq-eqb, ne-eqb, lt-ltb, and-from, false≢true}
 use Rattle.command_list.specs.declared.command.Barrier.{Barrier}
 use Rattle.command_list.specs.declared.command.BarrierType.{BarrierType}
@@ -20,10 +22,13 @@ use Rattle.command_list.specs.Numbers.{numberAt, numbers}
 use Rattle.command_list.specs.Commands.{Command, BeginEvent, OMSetRenderTargets, ResourceBarrier, endsWithZero}
 use Rattle.command_list.specs.Decoding.{repeated, typeOf, barriers, then, Decoded, takes, wrong, checked, decode}
 use Rattle.command_list.proofs.Places.{number-1}
-use Rattle.command_list.specs.Seen.{every, entryNumbers, entriesOf}
+use Rattle.command_list.specs.Seen.{every, entryAt, entryNumbers, entriesOf}
 
 pub none-some : {A : Type 0} {a : A} → None ≡ Some a → ⊥
 none-some e = false≢true (ap isSome e)
+
+pub some-same : {A : Type 0} {x y : A} → Some x ≡ Some y → x ≡ y
+some-same p = cc
 
 pub then-is : {A B : Type 0} (o : Option A) (f : A → Option B) (b : B) → then o f ≡ Some b → (a : A) × (o ≡ Some a) × (f a ≡ Some b)
 then-is None f b e = absurd (none-some e)
@@ -125,17 +130,11 @@ known-fail at bs l m n p q = sym (known-more at bs l m n ∙ ap (λ t. t && know
 -- as many barriers as entries
 pub count-barriers : (n at : ℕ) (bs : List ℕ) (es : List Barrier) → barriers (numbers (repeated n five) at bs) ≡ Some es → length es ≡ n
 count-barriers zero at bs es e = ap length (some-same (sym e))
-  where
-    some-same : {x y : List Barrier} → Some x ≡ Some y → x ≡ y
-    some-same p = cc
 count-barriers (suc n) at bs es e =
     let a = then-is (typeOf (numberAt 1 at bs)) _ es e in
     let b = then-is (barriers (numbers (repeated n five) (at + 1 + 4 + 4 + 4 + 4) bs)) _ es (a .2) in
     let same = some-same (b .2) in
     sym (ap length same) ∙ ap suc (count-barriers n (at + 1 + 4 + 4 + 4 + 4) bs (b .0) (b .1))
-  where
-    some-same : {x y : List Barrier} → Some x ≡ Some y → x ≡ y
-    some-same p = cc
 
 taken-barriers : (o : Option (List Barrier)) → ((es : List Barrier) → o ≡ Some es → 0 < length es)
     → checked (then o (λ es. Some (ResourceBarrier es))) ≡ cond (isSome o) (takes (ResourceBarrier (valueOr o []))) (wrong 25)
@@ -146,3 +145,41 @@ pub decode-barriers : (bs : List ℕ) → 0 < length bs → length bs % 17 ≡ 0
 decode-barriers bs h e =
     cond-true _ _ _ (and-from _ _ (lt-ltb 0 (length bs) h) (eq-eqb (length bs % 17) 0 e))
     ∙ taken-barriers (barriers (entryNumbers bs)) (λ es s. let n = count-barriers (length bs / 17) 0 bs es s in omega arith)
+
+-- one of some numbers of equal widths
+nth-run : (w n i at : ℕ) (bs : List ℕ) → i < n → nth (numbers (repeated n (w ∷ [])) at bs) i ≡ Some (numberAt w (at + w * i) bs)
+nth-run w zero i at bs h = absurd (omega arith)
+nth-run w (suc n) zero at bs h = ap (λ k. Some (numberAt w k bs)) (let z = mul-zero w in omega arith)
+nth-run w (suc n) (suc i) at bs h = nth-run w n i (at + w) bs (omega arith) ∙ ap (λ k. Some (numberAt w k bs)) (let m = mul-suc w i in omega arith)
+
+pub nth-every : (w i : ℕ) (bs : List ℕ) → i < length bs / w → Some (numberAt w (w * i) bs) ≡ nth (every w bs) i
+nth-every w i bs h = sym (nth-run w (length bs / w) i 0 bs h ∙ ap (λ k. Some (numberAt w k bs)) (omega arith))
+
+pub past-every : (w i : ℕ) (bs : List ℕ) → length bs / w ≤ i → None ≡ nth (every w bs) i
+past-every w i bs h = sym (nth-past (every w bs) i (let l = length-every w bs in omega arith))
+
+-- one of some entries
+nth-entries : (n i at : ℕ) (bs : List ℕ) (es : List Barrier) → i < n → barriers (numbers (repeated n five) at bs) ≡ Some es → entryAt (at + 17 * i) bs ≡ nth es i
+nth-entries zero i at bs es h e = absurd (omega arith)
+nth-entries (suc n) zero at bs es h e =
+    let a = then-is (typeOf (numberAt 1 at bs)) _ es e in
+    let b = then-is (barriers (numbers (repeated n five) (at + 1 + 4 + 4 + 4 + 4) bs)) _ es (a .2) in
+    let p5 : numberAt 4 (at + 1 + 4) bs ≡ numberAt 4 (at + 5) bs = ap (λ k. numberAt 4 k bs) (omega arith) in
+    let p9 : numberAt 4 (at + 1 + 4 + 4) bs ≡ numberAt 4 (at + 9) bs = ap (λ k. numberAt 4 k bs) (omega arith) in
+    let p13 : numberAt 4 (at + 1 + 4 + 4 + 4) bs ≡ numberAt 4 (at + 13) bs = ap (λ k. numberAt 4 k bs) (omega arith) in
+    ap (λ k. entryAt k bs) (omega arith)
+    ∙ ap (λ o. then o (λ k. Some (record { kind = k; resource = numberAt 4 (at + 1) bs; subresource = numberAt 4 (at + 5) bs; before = numberAt 4 (at + 9) bs; after = numberAt 4 (at + 13) bs }))) (a .1)
+    ∙ (λ i. Some (record { kind = a .0; resource = numberAt 4 (at + 1) bs; subresource = sym p5 i; before = sym p9 i; after = sym p13 i }))
+    ∙ ap (λ l. nth l 0) (some-same (b .2))
+nth-entries (suc n) (suc i) at bs es h e =
+    let a = then-is (typeOf (numberAt 1 at bs)) _ es e in
+    let b = then-is (barriers (numbers (repeated n five) (at + 1 + 4 + 4 + 4 + 4) bs)) _ es (a .2) in
+    ap (λ k. entryAt k bs) (omega arith)
+    ∙ nth-entries n i (at + 1 + 4 + 4 + 4 + 4) bs (b .0) (omega arith) (b .1)
+    ∙ ap (λ l. nth l (suc i)) (some-same (b .2))
+
+pub nth-entry : (i : ℕ) (bs : List ℕ) (es : List Barrier) → i < length bs / 17 → barriers (entryNumbers bs) ≡ Some es → entryAt (17 * i) bs ≡ nth es i
+nth-entry i bs es h e = ap (λ k. entryAt k bs) (omega arith) ∙ nth-entries (length bs / 17) i 0 bs es h e
+
+pub past-entry : (i : ℕ) (bs : List ℕ) (es : List Barrier) → length bs / 17 ≤ i → barriers (entryNumbers bs) ≡ Some es → None ≡ nth es i
+past-entry i bs es h e = sym (nth-past es i (let l = count-barriers (length bs / 17) 0 bs es e in omega arith))

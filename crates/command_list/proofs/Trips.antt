@@ -26,7 +26,7 @@ use Rattle.command_list.specs.Commands.{Command, codeOf, fields, unit, handle,
 use Rattle.command_list.specs.Decoding.{Shape, shape, sum, lengthRight, repeated, widthsOf, flagOf, kindOf, specialOf, typeOf, then, barriers, named, Decoded, takes, wrong, checked, decode}
 use Rattle.command_list.proofs.Places.{number-1}
 use Rattle.command_list.proofs.Rows.{length-bytes, total-entries}
-use Rattle.command_list.proofs.Runs.{none-some, then-is, length-numbers, length-repeated, count-barriers}
+use Rattle.command_list.proofs.Runs.{none-some, some-same, then-is, length-numbers, length-repeated, count-barriers}
 use Rattle.command_list.proofs.Bytewise.{numbers-bytes, bytes-numbers, Bytes}
 
 -- one law for every code: operands of the right length and widths, which name a command in range, are read as it
@@ -43,7 +43,7 @@ decode-by k fs c l w n r f =
 
 -- rows of equal entries
 module _ {X : Type 0} (row : X → List Field) (ws : List ℕ) (even : (x : X) → widths (row x) ≡ ws) where
-  widths-joined : (xs : List X) → widths (joined row xs) ≡ repeated (length xs) ws
+  pub widths-joined : (xs : List X) → widths (joined row xs) ≡ repeated (length xs) ws
   widths-joined [] = refl
   widths-joined (x ∷ xs) = widths-append (row x) (joined row xs) ∙ ap₂ (λ p q. p ++ q) (even x) (widths-joined xs)
     where
@@ -51,11 +51,11 @@ module _ {X : Type 0} (row : X → List Field) (ws : List ℕ) (even : (x : X) �
       widths-append [] gs = refl
       widths-append (f ∷ fs) gs = ap (λ l. f .width ∷ l) (widths-append fs gs)
 
-values-units : (us : List ℕ) → values (joined unit us) ≡ us
+pub values-units : (us : List ℕ) → values (joined unit us) ≡ us
 values-units [] = refl
 values-units (u ∷ us) = ap (λ l. u ∷ l) (values-units us)
 
-values-handles : (hs : List ℕ) → values (joined handle hs) ≡ hs
+pub values-handles : (hs : List ℕ) → values (joined handle hs) ≡ hs
 values-handles [] = refl
 values-handles (h ∷ hs) = ap (λ l. h ∷ l) (values-handles hs)
 
@@ -131,9 +131,6 @@ pub record Backs (k : Code) (ops : List ℕ) (c : Command) : Type 0 where
   pub same : codeOf c ≡ k
   pub wrote : bytes (fields c) ≡ ops
 
-some-same : {A : Type 0} {x y : A} → Some x ≡ Some y → x ≡ y
-some-same p = cc
-
 sum-widths : (fs : List Field) → sum (widths fs) ≡ total fs
 sum-widths [] = refl
 sum-widths (f ∷ fs) = ap (λ n. f .width + n) (sum-widths fs)
@@ -175,7 +172,7 @@ special-back n =
     (λ t. ap specialByte (cond-true _ _ _ t) ∙ sym (eqb-true n 255 t)) (λ f. ap specialByte (cond-false _ _ _ f)) (cases-bool (eqb n 255))
 
 -- the numbers of entries are those of the barriers that they name
-entries-back : (n at : ℕ) (ops : List ℕ) (es : List Barrier) → barriers (numbers (repeated n (1 ∷ 4 ∷ 4 ∷ 4 ∷ 4 ∷ [])) at ops) ≡ Some es
+pub entries-back : (n at : ℕ) (ops : List ℕ) (es : List Barrier) → barriers (numbers (repeated n (1 ∷ 4 ∷ 4 ∷ 4 ∷ 4 ∷ [])) at ops) ≡ Some es
     → values (joined entry es) ≡ numbers (repeated n (1 ∷ 4 ∷ 4 ∷ 4 ∷ 4 ∷ [])) at ops
 entries-back zero at ops es e = sym (ap (λ l. values (joined entry l)) (some-same e))
 entries-back (suc n) at ops es e =
@@ -185,7 +182,7 @@ entries-back (suc n) at ops es e =
     sym (ap (λ l. values (joined entry l)) (some-same (b .2)))
     ∙ ap₂ (λ t l. t ∷ numberAt 4 (at + 1) ops ∷ numberAt 4 (at + 1 + 4) ops ∷ numberAt 4 (at + 1 + 4 + 4) ops ∷ numberAt 4 (at + 1 + 4 + 4 + 4) ops ∷ l) (type-back _ (a .0) (a .1)) ih
 
-sum-repeated : (n : ℕ) (ws : List ℕ) → sum (repeated n ws) ≡ n * sum ws
+pub sum-repeated : (n : ℕ) (ws : List ℕ) → sum (repeated n ws) ≡ n * sum ws
 sum-repeated zero ws = sym (zero-mul (sum ws))
 sum-repeated (suc n) ws = sum-append ws (repeated n ws) ∙ ap (λ k. sum ws + k) (sum-repeated n ws) ∙ let m = suc-mul n (sum ws) in omega arith
   where

@@ -21,7 +21,7 @@ use Rattle.command_list.specs.Files.{Verdict, accepted, refused, after, follow
 use Rattle.command_list.proofs.Rows.{length-bytes}
 use Rattle.command_list.proofs.Bytewise.{number-fit, be-number, Bytes, bytes-drop, bytes-take}
 use Rattle.command_list.proofs.Fronts.{said, front-none, front-whole, front-within}
-use Rattle.command_list.proofs.Runs.{none-some}
+use Rattle.command_list.proofs.Runs.{none-some, some-same}
 use Rattle.command_list.proofs.Trips.{decoded, decode-back, Backs}
 
 -- a code's byte names it, and no other byte does
@@ -48,9 +48,6 @@ named-byte code.ResourceBarrier = refl
 named-byte code.DrawInstanced = refl
 named-byte code.Dispatch = refl
 named-byte code.ExecuteIndirect = refl
-
-some-same : {x y : Code} → Some x ≡ Some y → x ≡ y
-some-same p = cc
 
 byte-named : (ks : List Code) (b : ℕ) (k : Code) → among ks b ≡ Some k → byteOf k ≡ b
 byte-named [] b k e = absurd (none-some e)

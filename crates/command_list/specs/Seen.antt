@@ -18,9 +18,9 @@ use Rattle.command_list.specs.declared.command.Command.{Command as Given}
 use Rattle.command_list.specs.declared.command.Command.the-variants as given
 use Rattle.command_list.specs.declared.record.Record.{Record}
 use Rattle.command_list.specs.declared.record.Record.the-variants as record′
-use Rattle.command_list.specs.Numbers.{numbers}
+use Rattle.command_list.specs.Numbers.{numberAt, numbers}
 use Rattle.command_list.specs.Commands.{Command, BeginEvent, EndEvent, SetDescriptorHeaps, SetRootSignature, SetPipelineState, IASetPrimitiveTopology, IASetVertexBuffers, SetRoot32BitConstant, SetRootDescriptorTable, SetRootConstantBufferView, OMSetRenderTargets, ClearRenderTargetView, RSSetViewports, RSSetScissorRects, ResourceBarrier, DrawInstanced, Dispatch, ExecuteIndirect}
-use Rattle.command_list.specs.Decoding.{repeated, barriers, Decoded, takes, wrong, Front, ended, first, broken, front}
+use Rattle.command_list.specs.Decoding.{repeated, typeOf, then, barriers, Decoded, takes, wrong, Front, ended, first, broken, front}
 
 -- the number of each refusal
 abbrev pub numberOf : Number → ℕ
@@ -73,6 +73,12 @@ every w bs = numbers (repeated (length bs / w) (w ∷ [])) 0 bs
 -- the numbers of barrier entries
 abbrev pub entryNumbers : List ℕ → List ℕ
 entryNumbers bs = numbers (repeated (length bs / 17) (1 ∷ 4 ∷ 4 ∷ 4 ∷ 4 ∷ [])) 0 bs
+
+-- the barrier whose entry begins at a place, if its type is known
+abbrev pub entryAt : ℕ → List ℕ → Option Barrier
+entryAt at bs =
+    then (typeOf (numberAt 1 at bs))
+    (λ k. Some (record { kind = k; resource = numberAt 4 (at + 1) bs; subresource = numberAt 4 (at + 5) bs; before = numberAt 4 (at + 9) bs; after = numberAt 4 (at + 13) bs }))
 
 -- the barriers that bytes hold, none if one has no type
 abbrev pub entriesOf : List ℕ → List Barrier

@@ -9,9 +9,11 @@ ghost use Rattle.std.specs.declared.option.Option.the-variants.{Some, None};
 ghost use Rattle.command_list.specs.declared.code.Code.the-variants as code;
 ghost use Rattle.command_list.specs.Numbers.{numberAt};
 ghost use Rattle.command_list.specs.Commands.{ofHalf, isSpecial};
-ghost use Rattle.command_list.specs.Decoding.{decode, flagOf, kindOf, specialOf, barriers};
-ghost use Rattle.command_list.specs.Seen.{seen, entryNumbers};
+ghost use Rattle.command_list.specs.Decoding.{decode, flagOf, kindOf, specialOf, typeOf, barriers};
+ghost use Rattle.command_list.specs.Seen.{seen, entryAt, entryNumbers};
 use crate::code::Code;
+use crate::command::Barrier;
+use crate::command::BarrierType;
 use crate::command::Fixed;
 use crate::command::Half;
 use crate::fault::Number;
@@ -294,6 +296,34 @@ fn read_targets(rest: &[u8]) -> Result<Record, Number>
             Ok(Record::OMSetRenderTargets(Handles { bytes: handles }))
         }
         [] => Err(Number::Length),
+    }
+}
+
+// A barrier's type is 0 or 2.
+fn barrier_type(byte: u8) -> Option<BarrierType>
+    ensures { λ r. ⌜ r ≡ typeOf byte ⌝ }
+{
+    match byte {
+        0 => Some(BarrierType::Transition),
+        2 => Some(BarrierType::Uav),
+        _ => None,
+    }
+}
+
+// The entry at a place, if its type is known.
+pub fn read_entry(entries: &[u8], at: usize) -> Option<Barrier>
+    requires { ⌜ at + 17 ≤ length (now entries) ⌝ }
+    ensures { λ r. ⌜ r ≡ entryAt at (now (entries .entry)) ⌝ }
+{
+    match barrier_type(get_u8(entries, at)) {
+        Some(kind) => Some(Barrier {
+            kind,
+            resource: get_u32(entries, at + 1),
+            subresource: get_u32(entries, at + 5),
+            before: get_u32(entries, at + 9),
+            after: get_u32(entries, at + 13),
+        }),
+        None => None,
     }
 }
 

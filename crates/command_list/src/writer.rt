@@ -3,9 +3,10 @@ ghost use mathlib.Core.Path.{_≡_};
 ghost use mathlib.Core.Bool.{true};
 ghost use Prim.Native.Nat.{ℕ, _<_};
 ghost use lib.ListN.{length};
+ghost use Rattle.command_list.specs.declared.code.Code.the-variants as code;
 ghost use Rattle.command_list.specs.Numbers.{total};
-ghost use Rattle.command_list.specs.Commands.{ofHalf, kindByte, specialByte, endsWithZero, inRange, readable, codeOf, fields};
-ghost use Rattle.command_list.specs.Seen.{fixedCommand, givenCommand};
+ghost use Rattle.command_list.specs.Commands.{BeginEvent, OMSetRenderTargets, ResourceBarrier, ofHalf, kindByte, specialByte, endsWithZero, inRange, readable, codeOf, fields};
+ghost use Rattle.command_list.specs.Seen.{fixedCommand, givenCommand, commandOf, every, entriesOf};
 ghost use Rattle.command_list.specs.Writing.{Appended, Begun, Written};
 use crate::code::Code;
 use crate::command::Command;
@@ -13,7 +14,10 @@ use crate::command::Fixed;
 use crate::command::Half;
 use crate::fault::FULL;
 use crate::fault::Fault;
+use crate::fields::get_u16;
+use crate::fields::types_known;
 use crate::operands::BarrierEntry;
+use crate::operands::ByteEntry;
 use crate::operands::ByteOperands;
 use crate::operands::HandleEntry;
 use crate::operands::ListOperands;
@@ -25,6 +29,7 @@ use crate::operands::ShortOperands;
 use crate::operands::UnitEntry;
 use crate::operands::WordOperands;
 use crate::reader::MOST_BYTES;
+use crate::record::Record;
 
 // Begins a list in the caller's bytes, of which there are 1 to 65536, and says where it ends.
 pub fn begin(bytes: &mut [u8]) -> Result<usize, Fault>
@@ -254,5 +259,80 @@ pub fn append(bytes: &mut [u8], end: usize, command: Command) -> Result<usize, F
             append_row(bytes, end, Code::ResourceBarrier, entries)
         }
         Command::Fixed(fixed) => append_fixed(bytes, end, fixed),
+    }
+}
+
+// Whether a label that was read ends with 0, in a record of a length that can be said.
+fn units_readable(units: &[u8]) -> bool
+    ensures { λ r. ⌜ r ≡ readable (BeginEvent (every 2 (now (units .entry)))) ⌝ }
+{
+    let n = units.len() / 2;
+    if n == 0 || n > 32767 {
+        return false;
+    }
+    get_u16(units, 2 * n - 2) == 0
+}
+
+// Whether barriers that were read have known types, in a record of a length that can be said.
+fn entries_readable(entries: &[u8]) -> bool
+    ensures { λ r. ⌜ r ≡ readable (ResourceBarrier (entriesOf (now (entries .entry)))) ⌝ }
+{
+    let n = entries.len() / 17;
+    if n == 0 || n > 3854 {
+        return false;
+    }
+    types_known(&entries[0..17 * n])
+}
+
+// Whether a record's command has a record that the reader takes: each that was read has.
+fn is_record_readable(record: Record) -> bool
+    ensures { λ r. ⌜ r ≡ readable (commandOf («record» .entry)) ⌝ }
+{
+    match record {
+        Record::BeginEvent(units) => units_readable(units.bytes),
+        Record::OMSetRenderTargets(handles) => handles.bytes.len() / 8 <= 8,
+        Record::ResourceBarrier(entries) => entries_readable(entries.bytes),
+        Record::Fixed(fixed) => in_range(fixed),
+    }
+}
+
+// Lists that were read are written as the file's own bytes.
+fn append_units(bytes: &mut [u8], end: usize, units: &[u8]) -> Result<usize, Fault>
+    requires { ⌜ readable (BeginEvent (every 2 (now units))) ≡ true ⌝ }
+    ensures { λ r. ⌜ Appended (now (bytes .entry)) end code.BeginEvent (fields (BeginEvent (every 2 (now (units .entry))))) r (now (bytes .exit)) ⌝ }
+{
+    let n = units.len() / 2;
+    append_row(bytes, end, Code::BeginEvent, &units[0..2 * n])
+}
+
+fn append_handles(bytes: &mut [u8], end: usize, handles: &[u8]) -> Result<usize, Fault>
+    requires { ⌜ readable (OMSetRenderTargets (every 8 (now handles))) ≡ true ⌝ }
+    ensures { λ r. ⌜ Appended (now (bytes .entry)) end code.OMSetRenderTargets (fields (OMSetRenderTargets (every 8 (now (handles .entry))))) r (now (bytes .exit)) ⌝ }
+{
+    let n = handles.len() / 8;
+    let row = (n as u8, &handles[0..8 * n]);
+    append_row(bytes, end, Code::OMSetRenderTargets, row)
+}
+
+fn append_entries(bytes: &mut [u8], end: usize, entries: &[u8]) -> Result<usize, Fault>
+    requires { ⌜ readable (ResourceBarrier (entriesOf (now entries))) ≡ true ⌝ }
+    ensures { λ r. ⌜ Appended (now (bytes .entry)) end code.ResourceBarrier (fields (ResourceBarrier (entriesOf (now (entries .entry))))) r (now (bytes .exit)) ⌝ }
+{
+    let n = entries.len() / 17;
+    append_row(bytes, end, Code::ResourceBarrier, &entries[0..17 * n])
+}
+
+// Writes a record that was read behind the first `end` bytes, and says where it ends.
+pub fn append_record(bytes: &mut [u8], end: usize, record: Record) -> Result<usize, Fault>
+    ensures { λ r. ⌜ Written (commandOf («record» .entry)) (now (bytes .entry)) end r (now (bytes .exit)) ⌝ }
+{
+    if !is_record_readable(record) {
+        return Err(FULL);
+    }
+    match record {
+        Record::BeginEvent(units) => append_units(bytes, end, units.bytes),
+        Record::OMSetRenderTargets(handles) => append_handles(bytes, end, handles.bytes),
+        Record::ResourceBarrier(entries) => append_entries(bytes, end, entries.bytes),
+        Record::Fixed(fixed) => append_fixed(bytes, end, fixed),
     }
 }

@@ -1,0 +1,6 @@
+use mathlib.Core.Path.{sym}
+use Rattle.command_list.proofs.Runs.{length-every}
+use Rattle.command_list.proofs.record.Units.len.Needs as need
+
+pub returns : need.returns
+returns c = sym (length-every 2 (c .args .self .now .bytes .now))
