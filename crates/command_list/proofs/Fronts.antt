@@ -75,15 +75,16 @@ front-within (a ∷ b ∷ k ∷ bs) c n e =
     ⊎-elim
     (λ t. absurd (broken-first (sym (cond-true _ _ _ t) ∙ e)))
     (λ f.
-      let p = or-parts _ _ f in
-      let some = eqb-false (a * 256 + b) 0 (p .0) in
-      let far = ltb-false (length bs) (a * 256 + b - 1) (p .1) in
-      let same = sized-first _ _ n c (sym (cond-false _ _ _ f) ∙ e) in
-      (positive (a * 256 + b) n some same, omega arith))
+    let p = or-parts _ _ f in
+    let some = eqb-false (a * 256 + b) 0 (p .0) in
+    let far = ltb-false (length bs) (a * 256 + b - 1) (p .1) in
+    let same = sized-first _ _ n c (sym (cond-false _ _ _ f) ∙ e) in
+    (positive (a * 256 + b) n some same, omega arith))
     (cases-bool (eqb (a * 256 + b) 0 || ltb (length bs) (a * 256 + b - 1)))
   where
     broken-first : {c : Command} {r m : ℕ} → broken r ≡ first c m → ⊥
     broken-first e = let z : _≡_ {A = ℕ} 0 1 = cc in omega arith
+
     positive : (s n : ℕ) → (s ≡ 0 → ⊥) → 2 + s ≡ n → 3 ≤ n
     positive zero n h e = absurd (h refl)
     positive (suc s) n h e = omega arith

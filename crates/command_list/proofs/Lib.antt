@@ -8,3 +8,4 @@ pub mod Trips
 pub mod Whole
 pub mod Readable
 pub mod Parts
+pub mod Tails

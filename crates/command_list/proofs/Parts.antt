@@ -64,9 +64,10 @@ number-fits w at bs h l =
 
 fit-numbers : (fs : List Field) (at : ℕ) (bs : List ℕ) → Bytes bs → at + total fs ≤ length bs → values fs ≡ numbers (widths fs) at bs → Fit fs
 fit-numbers [] at bs h l e = tt
-fit-numbers (f ∷ fs) at bs h l e =
-    (subst (λ v. v < 256 ^ f .width) (sym (ap (λ vs. getD vs 0 0) e)) (number-fits (f .width) at bs h (omega arith)),
-      fit-numbers fs (at + f .width) bs h (omega arith) (ap (drop 1) e))
+fit-numbers (f ∷ fs) at bs h l e = (
+  subst (λ v. v < 256 ^ f .width) (sym (ap (λ vs. getD vs 0 0) e)) (number-fits (f .width) at bs h (omega arith)),
+  fit-numbers fs (at + f .width) bs h (omega arith) (ap (drop 1) e),
+)
 
 -- entries written as the bytes that they were read from
 pub as-read : (xs ys : List ℕ) (n : ℕ) (k : Code) (hs gs : List Field) (p : List ℕ) (r : Result ℕ Fault) → Bytes p → Fit hs → total gs ≤ length p → values gs ≡ numbers (widths gs) 0 p
@@ -146,8 +147,8 @@ read-no-event n p e w =
     let us = every 2 p in
     let l : length us ≡ n = length-every 2 p ∙ sym e in
     sym (sym (readable-event us) ∙ ⊎-elim
-      (λ z. and-left _ _ (sym (no-last us (omega arith)) ∙ le-ltb 0 (length us) (omega arith)))
-      (λ z. and-right _ _ (lt-leb (length us) 32767 (omega arith))) w)
+    (λ z. and-left _ _ (sym (no-last us (omega arith)) ∙ le-ltb 0 (length us) (omega arith)))
+    (λ z. and-right _ _ (lt-leb (length us) 32767 (omega arith))) w)
 
 -- numbers within a part are those of the whole
 numbers-take : (ws : List ℕ) (at m : ℕ) (p : List ℕ) → at + sum ws ≤ m → numbers ws at (take m p) ≡ numbers ws at p
@@ -186,8 +187,8 @@ none-readable n None w l = refl
 none-readable n (Some es) w l =
     let k = l es refl in
     sym (sym (readable-barriers es) ∙ ⊎-elim
-      (λ z. and-left _ _ (le-ltb 0 (length es) (omega arith)))
-      (λ z. and-right _ _ (lt-leb (length es) 3854 (omega arith))) w)
+    (λ z. and-left _ _ (le-ltb 0 (length es) (omega arith)))
+    (λ z. and-right _ _ (lt-leb (length es) 3854 (omega arith))) w)
 
 pub read-no-barriers : (n : ℕ) (p : List ℕ) → n ≡ length p / 17 → (n ≡ 0) ⊎ (3854 < n) → false ≡ readable (ResourceBarrier (entriesOf p))
 read-no-barriers n p e w = none-readable n (barriers (entryNumbers p)) w (λ es s. count-barriers (length p / 17) 0 p es s ∙ sym e)

@@ -151,10 +151,10 @@ two-ways n a b x y z e =
     ⊎-elim {A = eqb n a ≡ true} {B = eqb n a ≡ false}
     (λ t. inl (sym (some-same (sym (cond-true _ _ _ t) ∙ e)), eqb-true n a t))
     (λ f.
-      ⊎-elim {A = eqb n b ≡ true} {B = eqb n b ≡ false}
-      (λ t. inr (sym (some-same (sym (cond-true _ _ _ t) ∙ sym (cond-false _ _ _ f) ∙ e)), eqb-true n b t))
-      (λ g. absurd (none-some (sym (cond-false _ _ _ g) ∙ sym (cond-false _ _ _ f) ∙ e)))
-      (cases-bool (eqb n b)))
+    ⊎-elim {A = eqb n b ≡ true} {B = eqb n b ≡ false}
+    (λ t. inr (sym (some-same (sym (cond-true _ _ _ t) ∙ sym (cond-false _ _ _ f) ∙ e)), eqb-true n b t))
+    (λ g. absurd (none-some (sym (cond-false _ _ _ g) ∙ sym (cond-false _ _ _ f) ∙ e)))
+    (cases-bool (eqb n b)))
     (cases-bool (eqb n a))
 
 flag-back : (n : ℕ) (on : Bool) → flagOf n ≡ Some on → flagByte on ≡ n

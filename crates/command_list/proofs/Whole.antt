@@ -11,7 +11,7 @@ use Rattle.std.specs.Joined.{joined}
 use Rattle.std.specs.declared.option.Option.{Option}
 use Rattle.std.specs.declared.option.Option.the-variants.{Some, None}
 use Rattle.std.proofs.shelf.Lists.{take-at, drop-at, take-append-le, drop-append-le, take-append-drop, length-drop, length-take-le, drop-all, getD-append-left}
-use Rattle.std.proofs.shelf.Tests.{cond-true, cond-false, eq-eqb, eqb-true, leb-true, le-leb, and-from, and-parts, cases-bool, or-parts, eqb-false, ltb-false, false≢true}
+use Rattle.std.proofs.shelf.Tests.{cond-true, cond-false, eq-eqb, eqb-true, leb-true, le-leb, lt-ltb, and-from, and-parts, cases-bool, or-parts, eqb-false, ltb-false, false≢true}
 use Rattle.command_list.specs.declared.code.Code.{Code}
 use Rattle.command_list.specs.declared.code.Code.the-variants as code
 use Rattle.command_list.specs.Numbers.{be, Field, field, bytes, total, Fit}
@@ -22,7 +22,7 @@ use Rattle.command_list.proofs.Rows.{length-bytes}
 use Rattle.command_list.proofs.Bytewise.{number-fit, be-number, Bytes, bytes-drop, bytes-take}
 use Rattle.command_list.proofs.Fronts.{said, front-none, front-whole, front-within}
 use Rattle.command_list.proofs.Runs.{none-some, some-same}
-use Rattle.command_list.proofs.Trips.{decoded, decode-back, Backs}
+use Rattle.command_list.proofs.Trips.{decoded, decode-back, decode-is, Backs}
 
 -- a code's byte names it, and no other byte does
 named-byte : (k : Code) → codeNamed (byteOf k) ≡ Some k
@@ -110,10 +110,10 @@ front-is (a ∷ b ∷ k ∷ bs) c n e =
     ⊎-elim {A = test ≡ true} {B = test ≡ false}
     (λ t. absurd (not-first (sym (cond-true _ _ _ t) ∙ e)))
     (λ f.
-      let p = or-parts _ _ f in
-      let far = ltb-false (length bs) (a * 256 + b - 1) (p .1) in
-      let same = sized-is _ _ n c (sym (cond-false _ _ _ f) ∙ e) in
-      record { three = omega arith; some = positive (a * 256 + b) (eqb-false (a * 256 + b) 0 (p .0)); whole = omega arith; takes-up = same .1; says = same .0 })
+    let p = or-parts _ _ f in
+    let far = ltb-false (length bs) (a * 256 + b - 1) (p .1) in
+    let same = sized-is _ _ n c (sym (cond-false _ _ _ f) ∙ e) in
+    record { three = omega arith; some = positive (a * 256 + b) (eqb-false (a * 256 + b) 0 (p .0)); whole = omega arith; takes-up = same .1; says = same .0 })
     (cases-bool test)
   where
     positive : (s : ℕ) → (s ≡ 0 → ⊥) → 0 < s
@@ -167,7 +167,7 @@ unfolding records
 goes n at bs cs e = goes-by n at bs cs (front bs) refl e
 
 -- only nothing is the end
-ended-nil : (bs : List ℕ) → front bs ≡ ended → bs ≡ []
+pub ended-nil : (bs : List ℕ) → front bs ≡ ended → bs ≡ []
 unfolding front
 ended-nil [] e = refl
 ended-nil (a ∷ []) e = absurd (let z : _≡_ {A = ℕ} 0 1 = cc in omega arith)
@@ -180,10 +180,13 @@ ended-nil (a ∷ b ∷ k ∷ bs) e =
   where
     test : Bool
     test = eqb (a * 256 + b) 0 || ltb (length bs) (a * 256 + b - 1)
+
     broken-ended : {r : ℕ} → broken r ≡ ended → ⊥
     broken-ended p = let z : _≡_ {A = ℕ} 0 1 = cc in omega arith
+
     first-ended : {c : Command} {m : ℕ} → first c m ≡ ended → ⊥
     first-ended p = let z : _≡_ {A = ℕ} 0 1 = cc in omega arith
+
     sized-ended : (d : Decoded) (m : ℕ) → sized d m ≡ ended → ⊥
     sized-ended (takes c) m p = first-ended p
     sized-ended (wrong r) m p = broken-ended p
@@ -205,23 +208,23 @@ records-more (suc n) zero at bs rs cs c h k e f = absurd (omega arith)
 records-more (suc n) (suc m) at bs rs cs c h k e f =
     elim (goes n at bs cs e) [
       | stops q z ↦
-        ap (λ l. records (suc m) at (l ++ rs)) (ended-nil bs q)
-        ∙ records-first m at rs c (length rs) f
-        ∙ ap (λ l. after c (records m (at + length rs) l)) (drop-all (length rs) rs (omega arith))
-        ∙ ap (after c) (records-nil m (at + length rs))
-        ∙ ap (λ l. accepted (l ++ (c ∷ []))) (sym z)
+          ap (λ l. records (suc m) at (l ++ rs)) (ended-nil bs q)
+          ∙ records-first m at rs c (length rs) f
+          ∙ ap (λ l. after c (records m (at + length rs) l)) (drop-all (length rs) rs (omega arith))
+          ∙ ap (after c) (records-nil m (at + length rs))
+          ∙ ap (λ l. accepted (l ++ (c ∷ []))) (sym z)
       | leads d j ds q g z ↦
-        let w = front-within bs d j q in
-        let l = length-drop j bs in
-        let ih : records m (at + j) (drop j bs ++ rs) ≡ accepted (ds ++ (c ∷ [])) = records-more n m (at + j) (drop j bs) rs ds c (omega (arith, w .0, w .1)) (omega (arith, w .0, w .1)) g f in
-        records-first m at (bs ++ rs) d j (front-more bs rs d j q)
-        ∙ ap (λ r. after d (records m (at + j) r)) (drop-append-le j bs rs (w .1))
-        ∙ ap (after d) ih
-        ∙ ap (λ r. accepted (r ++ (c ∷ []))) z
+          let w = front-within bs d j q in
+          let l = length-drop j bs in
+          let ih : records m (at + j) (drop j bs ++ rs) ≡ accepted (ds ++ (c ∷ [])) = records-more n m (at + j) (drop j bs) rs ds c (omega (arith, w .0, w .1)) (omega (arith, w .0, w .1)) g f in
+          records-first m at (bs ++ rs) d j (front-more bs rs d j q)
+          ∙ ap (λ r. after d (records m (at + j) r)) (drop-append-le j bs rs (w .1))
+          ∙ ap (after d) ih
+          ∙ ap (λ r. accepted (r ++ (c ∷ []))) z
     ]
 
 -- a file has a byte at least
-some-byte : (bs : List ℕ) → hasVersion bs ≡ true → 1 ≤ length bs
+pub some-byte : (bs : List ℕ) → hasVersion bs ≡ true → 1 ≤ length bs
 some-byte [] e = absurd (false≢true e)
 some-byte (b ∷ bs) e = omega arith
 
@@ -265,7 +268,7 @@ code-known (Some j) ops c e = (j, refl, e)
 head-back : (a b k t : ℕ) → a < 256 → b < 256 → k < 256 → 1 + t ≡ a * 256 + b → ((1 + t) / 256 % 256 ≡ a) × ((1 + t) / 1 % 256 ≡ b) × (k / 1 % 256 ≡ k)
 head-back a b k t p q r e = (omega arith, omega arith, omega arith)
 
-front-back : (bs : List ℕ) (c : Command) (n : ℕ) → Bytes bs → front bs ≡ first c n → recordOf c ≡ take n bs
+pub front-back : (bs : List ℕ) (c : Command) (n : ℕ) → Bytes bs → front bs ≡ first c n → recordOf c ≡ take n bs
 front-back [] c n h e = absurd (let z = front-is [] c n e .three in omega arith)
 front-back (a ∷ []) c n h e = absurd (let z = front-is (a ∷ []) c n e .three in omega arith)
 front-back (a ∷ b ∷ []) c n h e = absurd (let z = front-is (a ∷ b ∷ []) c n e .three in omega arith)
@@ -292,10 +295,10 @@ records-back (suc n) at bs cs h l e =
     elim (goes n at bs cs e) [
       | stops q z ↦ ap (joined recordOf) z ∙ sym (ended-nil bs q)
       | leads d j ds q g z ↦
-        let w = front-within bs d j q in
-        let ld = length-drop j bs in
-        let ih : joined recordOf ds ≡ drop j bs = records-back n (at + j) (drop j bs) ds (bytes-drop j bs h) (omega (arith, w .0, w .1)) g in
-        sym (ap (joined recordOf) z) ∙ ap₂ (λ x y. x ++ y) (front-back bs d j h q) ih ∙ take-append-drop j bs
+          let w = front-within bs d j q in
+          let ld = length-drop j bs in
+          let ih : joined recordOf ds ≡ drop j bs = records-back n (at + j) (drop j bs) ds (bytes-drop j bs h) (omega (arith, w .0, w .1)) g in
+          sym (ap (joined recordOf) z) ∙ ap₂ (λ x y. x ++ y) (front-back bs d j h q) ih ∙ take-append-drop j bs
     ]
 
 -- any file that the reader takes, rewritten from its commands, gives its own bytes
@@ -305,3 +308,15 @@ file-back (b ∷ bs) cs h e =
     let o = file-is (b ∷ bs) cs e in
     let v = eqb-true b 1 (and-parts _ _ (o .version) .1) in
     ap₂ (λ x y. x ∷ y) (sym v) (records-back (suc (length bs)) 1 bs cs (bytes-drop 1 (b ∷ bs) h) (omega arith) (o .rest))
+
+-- a command that is read has a record, of as many bytes as were read
+pub front-readable : (bs : List ℕ) (c : Command) (n : ℕ) → Bytes bs → front bs ≡ first c n → (readable c ≡ true) × (size c ≡ n)
+front-readable bs c n h e =
+    let p = front-is bs c n e in
+    let w = front-within bs c n e in
+    let up = p .takes-up in
+    let a = h 0 in
+    let b = h 1 in
+    let long : size c ≡ n = sym (omega (arith, length-bytes (framed (codeOf c) (fields c)))) ∙ ap length (front-back bs c n h e) ∙ length-take-le n bs (w .1) in
+    let j = code-known (codeNamed (getD bs 2 0)) (take (said bs - 1) (drop 3 bs)) c (p .says) in
+    (and-from _ _ (decode-is (j .0) (take (said bs - 1) (drop 3 bs)) c (j .2) .ranged) (lt-ltb (total (fields c)) 65535 (omega arith)), long)

@@ -39,3 +39,7 @@ file bs = cond (hasVersion bs) (records (length bs) 1 (drop 1 bs)) (refused 21 0
 -- the file of some commands
 abbrev pub encoded : List Command → List ℕ
 encoded cs = 1 ∷ joined recordOf cs
+
+abbrev pub isAccepted : Verdict → Bool
+isAccepted (accepted cs) = true
+isAccepted (refused n p) = false

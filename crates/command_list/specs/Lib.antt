@@ -4,3 +4,4 @@ pub mod Decoding
 pub mod Files
 pub mod Seen
 pub mod Writing
+pub mod Passing

@@ -3,6 +3,7 @@ pub mod code;
 pub mod command;
 pub mod fault;
 mod fields;
+pub mod file;
 mod operands;
 pub mod reader;
 pub mod record;

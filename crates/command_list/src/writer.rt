@@ -43,7 +43,12 @@ pub fn begin(bytes: &mut [u8]) -> Result<usize, Fault>
 }
 
 // Writes the record of a code and its operands behind the first `end` bytes, and says where it ends.
-fn append_row<O: Operands + Copy>(bytes: &mut [u8], end: usize, code: Code, operands: O) -> Result<usize, Fault>
+fn append_row<O: Operands + Copy>(
+    bytes: &mut [u8],
+    end: usize,
+    code: Code,
+    operands: O,
+) -> Result<usize, Fault>
     requires { ⌜ total (O·Operands .row operands) < 65535 ⌝ }
     ensures { λ r. ⌜ Appended (now (bytes .entry)) end code (O·Operands .row operands) r (now (bytes .exit)) ⌝ }
 {
@@ -97,7 +102,8 @@ fn in_range(fixed: Fixed) -> bool
         Fixed::SetRootDescriptorTable { slot, .. } => slot < 64,
         Fixed::SetRootConstantBufferView { slot, .. } => slot < 64,
         Fixed::ExecuteIndirect {
-            special: Some(slot), ..
+            special: Some(slot),
+            ..
         } => slot < 64,
         _ => true,
     }

@@ -1,0 +1,43 @@
+-- What a pass over a whole file comes to.
+use mathlib.Core.Path.{_≡_}
+use mathlib.Core.List.{List, [], _∷_, _++_}
+use Prim.Native.Nat.{ℕ, _<_}
+use lib.ListN.{length, drop}
+use Rattle.std.specs.declared.result.Result.{Result}
+use Rattle.std.specs.declared.result.Result.the-variants.{Ok, Err}
+use Rattle.command_list.specs.declared.fault.Fault.{Fault}
+use Rattle.command_list.specs.Commands.{Command}
+use Rattle.command_list.specs.Files.{Verdict, accepted, refused, file, encoded}
+use Rattle.command_list.specs.Seen.{IsFault}
+
+-- n commands are accepted
+abbrev pub Holds : Verdict → ℕ → Type 0
+Holds (accepted cs) n = length cs ≡ n
+Holds (refused r p) n = ⊥
+
+-- f is the first refusal
+abbrev pub Stops : Verdict → Fault → Type 0
+Stops (accepted cs) f = ⊥
+Stops (refused r p) f = IsFault f r p
+
+-- a file was gone through: it has n records, or f is its first refusal
+abbrev pub Checked : List ℕ → Result ℕ Fault → Type 0
+Checked bs (Ok n) = Holds (file bs) n
+Checked bs (Err f) = Stops (file bs) f
+
+-- the commands of bs were written again at the start of xs, which left ys: they give the n bytes of bs itself
+pub record Rewrote (bs xs : List ℕ) (n : ℕ) (ys : List ℕ) : Type 0 where
+  pub commands : List Command
+  pub says : file bs ≡ accepted commands
+  pub own : encoded commands ≡ bs
+  pub ends : n ≡ length bs
+  pub wrote : ys ≡ encoded commands ++ drop n xs
+
+-- f is the first refusal of bs, or xs does not take a file that is accepted
+abbrev pub Unfit : Verdict → List ℕ → List ℕ → Fault → Type 0
+Unfit (accepted cs) bs xs f = IsFault f 10 0 × (length xs < length bs)
+Unfit (refused r p) bs xs f = IsFault f r p
+
+abbrev pub Rewritten : List ℕ → List ℕ → Result ℕ Fault → List ℕ → Type 0
+Rewritten bs xs (Ok n) ys = Rewrote bs xs n ys
+Rewritten bs xs (Err f) ys = Unfit (file bs) bs xs f × (ys ≡ xs)
