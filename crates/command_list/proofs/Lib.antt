@@ -9,3 +9,4 @@ pub mod Whole
 pub mod Readable
 pub mod Parts
 pub mod Tails
+pub mod Sizes

@@ -10,14 +10,15 @@ use lib.ListN.{length, take, drop, getD, length-append}
 use Rattle.std.specs.Joined.{joined}
 use Rattle.std.specs.declared.option.Option.{Option}
 use Rattle.std.specs.declared.option.Option.the-variants.{Some, None}
-use Rattle.std.proofs.shelf.Lists.{take-at, drop-at, take-append-le, drop-append-le, take-append-drop, length-drop, length-take-le, drop-all, getD-append-left}
-use Rattle.std.proofs.shelf.Tests.{cond-true, cond-false, eq-eqb, eqb-true, leb-true, le-leb, lt-ltb, and-from, and-parts, cases-bool, or-parts, eqb-false, ltb-false, false≢true}
+use Rattle.std.proofs.shelf.Lists.{take-at, drop-at, take-append-le, drop-append-le, take-append-drop, take-all, length-drop, length-take-le, drop-all, getD-append-left}
+use Rattle.std.proofs.shelf.Tests.{cond-true, cond-false, eq-eqb, eqb-true, leb-true, le-leb, lt-ltb, ltb-true, and-from, and-parts, cases-bool, or-parts, eqb-false, ltb-false, false≢true}
 use Rattle.command_list.specs.declared.code.Code.{Code}
 use Rattle.command_list.specs.declared.code.Code.the-variants as code
 use Rattle.command_list.specs.Numbers.{be, Field, field, bytes, total, Fit}
 use Rattle.command_list.specs.Commands.{Command, codeOf, byteOf, fields, framed, recordOf, size, inRange, readable}
 use Rattle.command_list.specs.Decoding.{codes, among, codeNamed, Decoded, takes, wrong, decode, decodeNamed, Front, ended, first, broken, sized, front}
 use Rattle.command_list.specs.Files.{Verdict, accepted, refused, after, followed, records, hasVersion, file, encoded}
+use Rattle.command_list.specs.Passing.{RecordsKnown}
 use Rattle.command_list.proofs.Rows.{length-bytes}
 use Rattle.command_list.proofs.Bytewise.{number-fit, be-number, Bytes, bytes-drop, bytes-take}
 use Rattle.command_list.proofs.Fronts.{said, front-none, front-whole, front-within}
@@ -320,3 +321,37 @@ front-readable bs c n h e =
     let long : size c ≡ n = sym (omega (arith, length-bytes (framed (codeOf c) (fields c)))) ∙ ap length (front-back bs c n h e) ∙ length-take-le n bs (w .1) in
     let j = code-known (codeNamed (getD bs 2 0)) (take (said bs - 1) (drop 3 bs)) c (p .says) in
     (and-from _ _ (decode-is (j .0) (take (said bs - 1) (drop 3 bs)) c (j .2) .ranged) (lt-ltb (total (fields c)) 65535 (omega arith)), long)
+
+byte-small : (k : Code) → byteOf k < 256
+byte-small code.BeginEvent = omega arith
+byte-small code.EndEvent = omega arith
+byte-small code.SetDescriptorHeaps = omega arith
+byte-small code.SetGraphicsRootSignature = omega arith
+byte-small code.SetComputeRootSignature = omega arith
+byte-small code.SetPipelineState = omega arith
+byte-small code.IASetPrimitiveTopology = omega arith
+byte-small code.IASetVertexBuffers = omega arith
+byte-small code.SetGraphicsRoot32BitConstant = omega arith
+byte-small code.SetComputeRoot32BitConstant = omega arith
+byte-small code.SetGraphicsRootDescriptorTable = omega arith
+byte-small code.SetComputeRootDescriptorTable = omega arith
+byte-small code.SetGraphicsRootConstantBufferView = omega arith
+byte-small code.SetComputeRootConstantBufferView = omega arith
+byte-small code.OMSetRenderTargets = omega arith
+byte-small code.ClearRenderTargetView = omega arith
+byte-small code.RSSetViewports = omega arith
+byte-small code.RSSetScissorRects = omega arith
+byte-small code.ResourceBarrier = omega arith
+byte-small code.DrawInstanced = omega arith
+byte-small code.Dispatch = omega arith
+byte-small code.ExecuteIndirect = omega arith
+
+pub records-known : RecordsKnown
+records-known c = (
+  λ r f.
+    let p = and-parts _ _ r in
+    let short = ltb-true (total (fields c)) 65535 (p .1) in
+    ap front (sym (append-nil (recordOf c))) ∙ front-record c [] (p .0) (omega arith, (byte-small (codeOf c), f)),
+  λ bs h e.
+    (front-readable bs c (length bs) h e .0, sym (front-back bs c (length bs) h e ∙ take-all (length bs) bs (omega arith))),
+)

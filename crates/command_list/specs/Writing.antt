@@ -1,7 +1,7 @@
 -- What a writer leaves in the caller's bytes.
 use mathlib.Core.Path.{_≡_}
 use mathlib.Core.List.{List, [], _∷_, _++_}
-use mathlib.Core.Bool.{true}
+use mathlib.Core.Bool.{true, false}
 use Prim.Native.Nat.{ℕ, _+_, _<_, _≤_, min}
 use lib.ListN.{length, take, drop}
 use Rattle.std.specs.declared.result.Result.{Result}
@@ -76,3 +76,8 @@ pub record Unbegun (xs : List ℕ) (f : Fault) (ys : List ℕ) : Type 0 where
 abbrev pub Begun : List ℕ → Result ℕ Fault → List ℕ → Type 0
 Begun xs (Ok n) ys = Began xs n ys
 Begun xs (Err f) ys = Unbegun xs f ys
+
+-- how long a command's record is, where it has one
+abbrev pub Measured : Command → Result ℕ Fault → Type 0
+Measured c (Ok n) = (readable c ≡ true) × (n ≡ size c)
+Measured c (Err f) = (readable c ≡ false) × IsFault f 10 0

@@ -1,15 +1,22 @@
 // Whole list files.
 ghost use mathlib.Core.Path.{_≡_};
 ghost use mathlib.Core.Bool.{true};
+ghost use mathlib.Core.List.{map};
+ghost use Prim.Native.Nat.{_≤_};
 ghost use lib.ListN.{length};
 ghost use Rattle.std.specs.Results.{Cases};
-ghost use Rattle.command_list.specs.Files.{isAccepted, file as fileSaid};
-ghost use Rattle.command_list.specs.Passing.{Checked, Rewritten};
+ghost use Rattle.command_list.specs.Files.{isAccepted, encoded, file as fileSaid};
+ghost use Rattle.command_list.specs.Seen.{givenCommand};
+ghost use Rattle.command_list.specs.Passing.{Checked, Rewritten, ListSize, ListWritten, Listed, allReadable, RecordsKnown};
+use crate::command::Command;
 use crate::fault::FULL;
 use crate::fault::Fault;
+use crate::reader::MOST_BYTES;
 use crate::reader::Reader;
+use crate::writer::append;
 use crate::writer::append_record;
 use crate::writer::begin;
+use crate::writer::size;
 
 // How many records a list file has, or its first refusal.
 pub fn check(file: &[u8]) -> Result<usize, Fault>
@@ -49,4 +56,51 @@ pub fn rewrite(file: &[u8], out: &mut [u8]) -> Result<usize, Fault>
     }
     rewrite_all(file, &mut out[0..size])?;
     Ok(size)
+}
+
+// How many bytes the list of some commands takes; refused where it has more than a list may
+// have, or where a command has no record that the reader takes.
+pub fn list_size(commands: &[Command]) -> Result<usize, Fault>
+    ensures { λ r. ⌜ ListSize (map givenCommand (now (commands .entry))) r ⌝ }
+{
+    let mut total = 1;
+    for command in commands {
+        total += size(*command)?;
+        if total > MOST_BYTES {
+            return Err(FULL);
+        }
+    }
+    Ok(total)
+}
+
+// Writes the list of some commands, which is known to fit.
+fn write_all(commands: &[Command], bytes: &mut [u8]) -> Result<usize, Fault>
+    requires readable { ⌜ allReadable (map givenCommand (now commands)) ≡ true ⌝ }
+    requires fits { ⌜ length (encoded (map givenCommand (now commands))) ≤ length (now bytes) ⌝ }
+    requires short { ⌜ length (now bytes) ≤ 65536 ⌝ }
+    ensures { λ r. ⌜ Cases r (λ n. Listed (map givenCommand (now (commands .entry))) (now (bytes .entry)) n (now (bytes .exit))) (λ _. ⊥) ⌝ }
+{
+    let mut end = begin(bytes)?;
+    for command in commands {
+        end = append(bytes, end, *command)?;
+    }
+    Ok(end)
+}
+
+// Writes the list of some commands at the start of the caller's bytes, of which there are at
+// most 65536, and says how many bytes it takes. A refusal leaves the bytes as they stand.
+pub fn write(commands: &[Command], bytes: &mut [u8]) -> Result<usize, Fault>
+    ensures { λ r. ⌜ ListWritten (map givenCommand (now (commands .entry))) (now (bytes .entry)) r (now (bytes .exit)) ⌝ }
+{
+    let size = list_size(commands)?;
+    if bytes.len() < size || bytes.len() > MOST_BYTES {
+        return Err(FULL);
+    }
+    write_all(commands, bytes)
+}
+
+// What has a record that the reader takes, for every command.
+pub fn records_are_known()
+    ensures { λ _. ⌜ RecordsKnown ⌝ }
+{
 }

@@ -5,9 +5,9 @@ ghost use Prim.Native.Nat.{ℕ, _<_};
 ghost use lib.ListN.{length};
 ghost use Rattle.command_list.specs.declared.code.Code.the-variants as code;
 ghost use Rattle.command_list.specs.Numbers.{total};
-ghost use Rattle.command_list.specs.Commands.{BeginEvent, OMSetRenderTargets, ResourceBarrier, ofHalf, kindByte, specialByte, endsWithZero, inRange, readable, codeOf, fields};
+ghost use Rattle.command_list.specs.Commands.{size as commandSize, BeginEvent, OMSetRenderTargets, ResourceBarrier, ofHalf, kindByte, specialByte, endsWithZero, inRange, readable, codeOf, fields};
 ghost use Rattle.command_list.specs.Seen.{fixedCommand, givenCommand, commandOf, every, entriesOf};
-ghost use Rattle.command_list.specs.Writing.{Appended, Begun, Written};
+ghost use Rattle.command_list.specs.Writing.{Appended, Begun, Measured, Written};
 use crate::code::Code;
 use crate::command::Command;
 use crate::command::Fixed;
@@ -243,6 +243,44 @@ fn is_readable(command: Command) -> bool
         Command::OMSetRenderTargets(handles) => handles.len() <= 8,
         Command::ResourceBarrier(entries) => entries.len() > 0 && entries.len() <= 3854,
         Command::Fixed(fixed) => in_range(fixed),
+    }
+}
+
+// How long the record of a command of a fixed width is.
+fn fixed_size(fixed: Fixed) -> usize
+    ensures { λ r. ⌜ r ≡ commandSize (fixedCommand fixed) ⌝ }
+{
+    match fixed {
+        Fixed::EndEvent => 3,
+        Fixed::SetDescriptorHeaps(_) => 4,
+        Fixed::SetRootSignature { .. } => 7,
+        Fixed::SetPipelineState(_) => 7,
+        Fixed::IASetPrimitiveTopology(_) => 7,
+        Fixed::IASetVertexBuffers { .. } => 20,
+        Fixed::SetRoot32BitConstant { .. } => 9,
+        Fixed::SetRootDescriptorTable { .. } => 12,
+        Fixed::SetRootConstantBufferView { .. } => 12,
+        Fixed::ClearRenderTargetView { .. } => 27,
+        Fixed::RSSetViewports(_) => 27,
+        Fixed::RSSetScissorRects { .. } => 19,
+        Fixed::DrawInstanced { .. } => 19,
+        Fixed::Dispatch { .. } => 15,
+        Fixed::ExecuteIndirect { .. } => 21,
+    }
+}
+
+// How long a command's record is; refused where it has none that the reader takes.
+pub fn size(command: Command) -> Result<usize, Fault>
+    ensures { λ r. ⌜ Measured (givenCommand (command .entry)) r ⌝ }
+{
+    if !is_readable(command) {
+        return Err(FULL);
+    }
+    match command {
+        Command::BeginEvent(units) => Ok(3 + 2 * units.len()),
+        Command::OMSetRenderTargets(handles) => Ok(4 + 8 * handles.len()),
+        Command::ResourceBarrier(entries) => Ok(3 + 17 * entries.len()),
+        Command::Fixed(fixed) => Ok(fixed_size(fixed)),
     }
 }
 
