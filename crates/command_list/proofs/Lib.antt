@@ -1,12 +1,3 @@
-pub mod Rows
 pub mod Places
 pub mod Runs
 pub mod Fronts
-pub mod Growing
-pub mod Bytewise
-pub mod Trips
-pub mod Whole
-pub mod Readable
-pub mod Parts
-pub mod Tails
-pub mod Sizes

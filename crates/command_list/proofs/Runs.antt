@@ -4,15 +4,16 @@ use mathlib.Core.List.{List, [], _∷_, _++_}
 use mathlib.Core.Logic.{_⊎_, inl, inr, ⊎-elim}
 use mathlib.Core.Bool.{Bool, true, false, cond, _&&_, _||_, not}
 use Prim.Native.Nat.{ℕ, zero, suc, _+_, _-_, _*_, _/_, _%_, _<_, _≤_}
-use native.Mathlib.Nat.{add-zero, add-assoc, mul-zero, mul-suc}
+use native.Mathlib.Nat.{add-zero, zero-add, add-assoc, mul-zero, zero-mul, mul-suc, suc-mul, mul-div-right, mul-mod-right}
 use native.Mathlib.Omega.{arith}
 use lib.Dec.{eqb, ltb, leb}
-use lib.ListN.{length, drop, getD, length-drop}
+use lib.ListN.{length, take, drop, getD, length-drop}
 use Rattle.std.specs.Finite.{nth}
+use Rattle.std.specs.shelf.Digits.{number}
 use Rattle.std.specs.Options.{isSome, valueOr}
 use Rattle.std.specs.declared.option.Option.{Option}
 use Rattle.std.specs.declared.option.Option.the-variants.{Some, None}
-use Rattle.std.proofs.shelf.Lists.{drop-drop}
+use Rattle.std.proofs.shelf.Lists.{drop-drop, drop-take, take-take, length-take-le}
 use Rattle.std.proofs.shelf.Maps.{nth-past}
 use Rattle.std.proofs.shelf.Tests.{cond-true, cond-false, eq-eqb, ne-eqb, lt-ltb, and-from, false≢true}
 use Rattle.command_list.specs.declared.command.Barrier.{Barrier}
@@ -20,7 +21,7 @@ use Rattle.command_list.specs.declared.command.BarrierType.{BarrierType}
 use Rattle.command_list.specs.declared.code.Code.the-variants as code
 use Rattle.command_list.specs.Numbers.{numberAt, numbers}
 use Rattle.command_list.specs.Commands.{Command, BeginEvent, OMSetRenderTargets, ResourceBarrier, endsWithZero}
-use Rattle.command_list.specs.Decoding.{repeated, typeOf, barriers, then, Decoded, takes, wrong, checked, decode}
+use Rattle.command_list.specs.Decoding.{sum, repeated, typeOf, barriers, then, Decoded, takes, wrong, checked, decode}
 use Rattle.command_list.proofs.Places.{number-1}
 use Rattle.command_list.specs.Seen.{every, entryAt, entryNumbers, entriesOf}
 
@@ -183,3 +184,36 @@ nth-entry i bs es h e = ap (λ k. entryAt k bs) (omega arith) ∙ nth-entries (l
 
 pub past-entry : (i : ℕ) (bs : List ℕ) (es : List Barrier) → length bs / 17 ≤ i → barriers (entryNumbers bs) ≡ Some es → None ≡ nth es i
 past-entry i bs es h e = sym (nth-past es i (let l = count-barriers (length bs / 17) 0 bs es e in omega arith))
+
+pub sum-repeated : (n : ℕ) (ws : List ℕ) → sum (repeated n ws) ≡ n * sum ws
+sum-repeated zero ws = sym (zero-mul (sum ws))
+sum-repeated (suc n) ws = sum-append ws (repeated n ws) ∙ ap (λ k. sum ws + k) (sum-repeated n ws) ∙ let m = suc-mul n (sum ws) in omega arith
+  where
+    sum-append : (xs ys : List ℕ) → sum (xs ++ ys) ≡ sum xs + sum ys
+    sum-append [] ys = sym (zero-add (sum ys))
+    sum-append (x ∷ xs) ys = ap (λ n. x + n) (sum-append xs ys) ∙ sym (add-assoc x (sum xs) (sum ys))
+
+-- what stands before a list is cut as a slice is
+pub cut : (n : ℕ) (p : List ℕ) → take (n - 0) (drop 0 p) ≡ take n p
+cut n p = ap (λ k. take k p) (omega arith)
+
+-- numbers within a part are those of the whole
+numbers-take : (ws : List ℕ) (at m : ℕ) (p : List ℕ) → at + sum ws ≤ m → numbers ws at (take m p) ≡ numbers ws at p
+unfolding numberAt
+numbers-take [] at m p h = refl
+numbers-take (w ∷ ws) at m p h =
+    let far : m ≡ at + (m - at) = omega arith in
+    let d : drop at (take m p) ≡ take (m - at) (drop at p) = ap (λ k. drop at (take k p)) far ∙ drop-take at (m - at) p in
+    ap₂ (λ x l. x ∷ l) (ap (λ l. number 256 (take w l)) d ∙ ap (number 256) (take-take w (m - at) (drop at p) (omega arith))) (numbers-take ws (at + w) m p (omega arith))
+
+pub whole-entries : (n : ℕ) (p : List ℕ) → n ≡ length p / 17 → entryNumbers (take (17 * n - 0) (drop 0 p)) ≡ entryNumbers p
+whole-entries n p e =
+    let q : take (17 * n - 0) (drop 0 p) ≡ take (17 * n) p = cut (17 * n) p in
+    let l : length (take (17 * n) p) ≡ 17 * n = length-take-le (17 * n) p (omega arith) in
+    let same : length (take (17 * n) p) / 17 ≡ length p / 17 = ap (λ k. k / 17) l ∙ mul-div-right n {m = 17} (omega arith) ∙ e in
+    ap entryNumbers q
+    ∙ ap (λ k. numbers (repeated k (1 ∷ 4 ∷ 4 ∷ 4 ∷ 4 ∷ [])) 0 (take (17 * n) p)) same
+    ∙ numbers-take (repeated (length p / 17) (1 ∷ 4 ∷ 4 ∷ 4 ∷ 4 ∷ [])) 0 (17 * n) p (let s = sum-repeated (length p / 17) (1 ∷ 4 ∷ 4 ∷ 4 ∷ 4 ∷ []) in omega arith)
+
+pub whole-length : (n : ℕ) (p : List ℕ) → n ≡ length p / 17 → length (take (17 * n - 0) (drop 0 p)) % 17 ≡ 0
+whole-length n p e = ap (λ k. k % 17) (ap length (cut (17 * n) p) ∙ length-take-le (17 * n) p (omega arith)) ∙ mul-mod-right 17 n

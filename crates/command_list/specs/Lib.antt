@@ -3,5 +3,3 @@ pub mod Commands
 pub mod Decoding
 pub mod Files
 pub mod Seen
-pub mod Writing
-pub mod Passing

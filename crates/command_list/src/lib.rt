@@ -1,10 +1,7 @@
-// The list file: commands as records of bytes, read and written.
+// The list file: its commands, what its bytes say, and the reader.
 pub mod code;
 pub mod command;
 pub mod fault;
 mod fields;
-pub mod file;
-mod operands;
 pub mod reader;
 pub mod record;
-pub mod writer;

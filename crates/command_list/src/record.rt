@@ -6,6 +6,7 @@ ghost use mathlib.Core.Bool.{cond};
 ghost use lib.Dec.{ltb};
 ghost use lib.ListN.{length};
 ghost use Rattle.std.specs.Finite.{nth};
+ghost use Rattle.std.specs.Options.{isSome};
 ghost use Rattle.std.specs.declared.option.Option.the-variants.{Some, None};
 ghost use Rattle.command_list.specs.Decoding.{barriers};
 ghost use Rattle.command_list.specs.Seen.{every, entryAt, entryNumbers};
@@ -14,6 +15,7 @@ use crate::command::Fixed;
 use crate::fields::get_u16;
 use crate::fields::get_u64;
 use crate::fields::read_entry;
+use crate::fields::types_known;
 
 // The UTF-16 units of a label, two bytes each.
 #[derive(Clone, Copy)]
@@ -82,6 +84,14 @@ impl<'a> Entries<'a> {
         ensures { λ r. ⌜ r ≡ length (now (now (self .entry) .bytes)) / 17 ⌝ }
     {
         self.bytes.len() / 17
+    }
+
+    // Whether the type of each entry is known.
+    pub fn known(&self) -> bool
+        ensures { λ r. ⌜ r ≡ isSome (barriers (entryNumbers (now (now (self .entry) .bytes)))) ⌝ }
+    {
+        let n = self.len();
+        types_known(&self.bytes[0..17 * n])
     }
 
     // An entry; none past the last one, or where its type is not known.

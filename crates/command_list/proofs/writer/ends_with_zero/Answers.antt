@@ -1,8 +1,0 @@
-use Rattle.command_list.proofs.Readable.{last-zero, no-last}
-use Rattle.command_list.proofs.writer.ends_with_zero.Needs as need
-
-pub returns-then-n-gt0 : need.returns-then-n-gt0
-returns-then-n-gt0 c = last-zero (c .args .units .now) (c .if-n-gt0 .taken)
-
-pub returns-else-n-gt0 : need.returns-else-n-gt0
-returns-else-n-gt0 c = no-last (c .args .units .now) (c .if-n-gt0 .left)

@@ -1,0 +1,3 @@
+pub mod Tails
+pub mod Sizes
+pub mod Known

@@ -1,0 +1,3 @@
+// Writes commands and records into the unused end of the caller's bytes.
+mod operands;
+pub mod writer;
