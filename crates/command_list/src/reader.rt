@@ -64,7 +64,8 @@ impl<'a> Reader<'a> {
     pub fn place(&self) -> usize
         ensures { λ r. ⌜ r ≡ now (self .entry) .at ⌝ }
     {
-        self.at
+        let Reader { at, .. } = self;
+        *at
     }
 
     // The next record; none at the end of the file. A refusal leaves the reader where it stands.

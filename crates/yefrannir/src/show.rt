@@ -64,6 +64,7 @@ pub fn reason(number: Number) -> &'static str {
 }
 
 // A refusal in a line.
+#[derive(Clone, Copy)]
 pub struct Told(pub Fault);
 
 pub impl fmt::Display for Told as ToldDisplay {
@@ -76,6 +77,7 @@ pub impl fmt::Display for Told as ToldDisplay {
 }
 
 // The operands of a record.
+#[derive(Clone, Copy)]
 pub struct Operands<'a>(pub Record<'a>);
 
 pub impl fmt::Display for Operands<'_> as OperandsDisplay {

@@ -1,4 +1,10 @@
-// The embedded season plot: the commands of one small frame of three draws.
+// The season plot that the program and its tests carry: one small frame of three draws.
+ghost use mathlib.Core.Path.{_≡_};
+ghost use mathlib.Core.List.{map};
+ghost use Rattle.command_list.specs.declared.command.Half.the-variants.{Graphics};
+ghost use Rattle.command_list.specs.Commands.{SetRoot32BitConstant, DrawInstanced};
+ghost use Rattle.command_list.specs.Seen.{givenCommand};
+ghost use Rattle.season_plot.specs.Plot.{seasonPlot};
 use command_list::command::Command;
 use command_list::command::Fixed;
 use command_list::command::Half;
@@ -19,7 +25,9 @@ const LABEL: [u16; 2] = [0xE9, 0];
 const TARGETS: [u64; 1] = [1];
 
 // A word of the special constants, which this plot has at root slot 2.
-const fn special(word: u8, value: u32) -> Command<'static> {
+fn special(word: u8, value: u32) -> Command<'static>
+    ensures { λ r. ⌜ givenCommand r ≡ SetRoot32BitConstant Graphics 2 word value ⌝ }
+{
     Command::Fixed(Fixed::SetRoot32BitConstant {
         half: Half::Graphics,
         slot: 2,
@@ -29,11 +37,13 @@ const fn special(word: u8, value: u32) -> Command<'static> {
 }
 
 // Three vertices, one instance.
-const fn draw(first_vertex: u32) -> Command<'static> {
+fn draw(first: u32) -> Command<'static>
+    ensures { λ r. ⌜ givenCommand r ≡ DrawInstanced 3 1 first 0 ⌝ }
+{
     Command::Fixed(Fixed::DrawInstanced {
         vertices: 3,
         instances: 1,
-        first_vertex,
+        first_vertex: first,
         first_instance: 0,
     })
 }
@@ -42,7 +52,9 @@ pub const COUNT: usize = 21;
 
 // The plot: a target that is cleared, one pipeline with its arguments, a draw from vertex 7, the
 // same again, and one from vertex 8.
-pub fn commands() -> [Command<'static>; COUNT] {
+pub fn commands() -> [Command<'static>; COUNT]
+    ensures { λ r. ⌜ map givenCommand r ≡ seasonPlot ⌝ }
+{
     [
         Command::BeginEvent(&LABEL),
         Command::Fixed(Fixed::SetDescriptorHeaps(true)),
