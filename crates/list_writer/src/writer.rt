@@ -109,7 +109,8 @@ fn in_range(fixed: Fixed) -> bool
     }
 }
 
-fn append_fixed(bytes: &mut [u8], end: usize, fixed: Fixed) -> Result<usize, Fault>
+// Writes the record of a command of a fixed width, whose slots and words are known to be in range.
+fn append_in_range(bytes: &mut [u8], end: usize, fixed: Fixed) -> Result<usize, Fault>
     ensures { λ r. ⌜ Appended (now (bytes .entry)) end (codeOf (fixedCommand fixed)) (fields (fixedCommand fixed)) r (now (bytes .exit)) ⌝ }
 {
     match fixed {
@@ -247,7 +248,7 @@ fn is_readable(command: Command) -> bool
 }
 
 // How long the record of a command of a fixed width is.
-fn fixed_size(fixed: Fixed) -> usize
+fn record_size(fixed: Fixed) -> usize
     ensures { λ r. ⌜ r ≡ commandSize (fixedCommand fixed) ⌝ }
 {
     match fixed {
@@ -269,6 +270,27 @@ fn fixed_size(fixed: Fixed) -> usize
     }
 }
 
+// How long the record of a command of a fixed width is; refused where it has none that the reader takes.
+pub fn size_fixed(fixed: Fixed) -> Result<usize, Fault>
+    ensures { λ r. ⌜ Measured (fixedCommand fixed) r ⌝ }
+{
+    if in_range(fixed) {
+        Ok(record_size(fixed))
+    } else {
+        Err(FULL)
+    }
+}
+
+// Writes the record of a command of a fixed width behind the first `end` bytes, and says where it ends.
+pub fn append_fixed(bytes: &mut [u8], end: usize, fixed: Fixed) -> Result<usize, Fault>
+    ensures { λ r. ⌜ Written (fixedCommand fixed) (now (bytes .entry)) end r (now (bytes .exit)) ⌝ }
+{
+    if !in_range(fixed) {
+        return Err(FULL);
+    }
+    append_in_range(bytes, end, fixed)
+}
+
 // How long a command's record is; refused where it has none that the reader takes.
 pub fn size(command: Command) -> Result<usize, Fault>
     ensures { λ r. ⌜ Measured (givenCommand (command .entry)) r ⌝ }
@@ -280,7 +302,7 @@ pub fn size(command: Command) -> Result<usize, Fault>
         Command::BeginEvent(units) => Ok(3 + 2 * units.len()),
         Command::OMSetRenderTargets(handles) => Ok(4 + 8 * handles.len()),
         Command::ResourceBarrier(entries) => Ok(3 + 17 * entries.len()),
-        Command::Fixed(fixed) => Ok(fixed_size(fixed)),
+        Command::Fixed(fixed) => Ok(record_size(fixed)),
     }
 }
 
@@ -302,7 +324,7 @@ pub fn append(bytes: &mut [u8], end: usize, command: Command) -> Result<usize, F
         Command::ResourceBarrier(entries) => {
             append_row(bytes, end, Code::ResourceBarrier, entries)
         }
-        Command::Fixed(fixed) => append_fixed(bytes, end, fixed),
+        Command::Fixed(fixed) => append_in_range(bytes, end, fixed),
     }
 }
 
@@ -380,6 +402,6 @@ pub fn append_record(bytes: &mut [u8], end: usize, record: Record) -> Result<usi
         Record::BeginEvent(units) => append_units(bytes, end, units.bytes),
         Record::OMSetRenderTargets(handles) => append_handles(bytes, end, handles.bytes),
         Record::ResourceBarrier(entries) => append_entries(bytes, end, entries.bytes),
-        Record::Fixed(fixed) => append_fixed(bytes, end, fixed),
+        Record::Fixed(fixed) => append_in_range(bytes, end, fixed),
     }
 }

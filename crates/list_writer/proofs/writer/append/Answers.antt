@@ -25,4 +25,4 @@ pub returns-in-ResourceBarrier : need.returns-in-ResourceBarrier
 returns-in-ResourceBarrier c = in-arm _ _ _ _ _ _ (c .in-ResourceBarrier .is) (sym (c .is-readable .ensures) ∙ c .if-not-is-readable .left) (c .append-row-in-ResourceBarrier .ensures)
 
 pub returns-in-Fixed : need.returns-in-Fixed
-returns-in-Fixed c = in-arm _ _ _ _ _ _ (c .in-Fixed .is) (sym (c .is-readable .ensures) ∙ c .if-not-is-readable .left) (c .append-fixed .ensures)
+returns-in-Fixed c = in-arm _ _ _ _ _ _ (c .in-Fixed .is) (sym (c .is-readable .ensures) ∙ c .if-not-is-readable .left) (c .append-in-range .ensures)
