@@ -1,4 +1,8 @@
 // The commands as they are written: one Direct3D 12 call each.
+ghost use mathlib.Core.Path.{_≡_};
+ghost use Rattle.command_list.specs.Commands.{codeOf, ofHalf};
+ghost use Rattle.command_list.specs.Seen.{fixedCommand};
+use crate::code::Code;
 
 // The two halves of a command list's state.
 #[derive(Clone, Copy, PartialEq, Eq)]
@@ -95,4 +99,53 @@ pub enum Command<'a> {
     OMSetRenderTargets(&'a [u64]),
     ResourceBarrier(&'a [Barrier]),
     Fixed(Fixed),
+}
+
+impl Half {
+    // One of two, by the half.
+    fn choose(self, graphics: Code, compute: Code) -> Code
+        ensures { λ r. ⌜ r ≡ ofHalf self graphics compute ⌝ }
+    {
+        match self {
+            Half::Graphics => graphics,
+            Half::Compute => compute,
+        }
+    }
+}
+
+impl Fixed {
+    // The code of a command.
+    pub fn code(self) -> Code
+        ensures { λ r. ⌜ r ≡ codeOf (fixedCommand self) ⌝ }
+    {
+        match self {
+            Fixed::EndEvent => Code::EndEvent,
+            Fixed::SetDescriptorHeaps(_) => Code::SetDescriptorHeaps,
+            Fixed::SetRootSignature { half, .. } => half.choose(
+                Code::SetGraphicsRootSignature,
+                Code::SetComputeRootSignature,
+            ),
+            Fixed::SetPipelineState(_) => Code::SetPipelineState,
+            Fixed::IASetPrimitiveTopology(_) => Code::IASetPrimitiveTopology,
+            Fixed::IASetVertexBuffers { .. } => Code::IASetVertexBuffers,
+            Fixed::SetRoot32BitConstant { half, .. } => half.choose(
+                Code::SetGraphicsRoot32BitConstant,
+                Code::SetComputeRoot32BitConstant,
+            ),
+            Fixed::SetRootDescriptorTable { half, .. } => half.choose(
+                Code::SetGraphicsRootDescriptorTable,
+                Code::SetComputeRootDescriptorTable,
+            ),
+            Fixed::SetRootConstantBufferView { half, .. } => half.choose(
+                Code::SetGraphicsRootConstantBufferView,
+                Code::SetComputeRootConstantBufferView,
+            ),
+            Fixed::ClearRenderTargetView { .. } => Code::ClearRenderTargetView,
+            Fixed::RSSetViewports(_) => Code::RSSetViewports,
+            Fixed::RSSetScissorRects { .. } => Code::RSSetScissorRects,
+            Fixed::DrawInstanced { .. } => Code::DrawInstanced,
+            Fixed::Dispatch { .. } => Code::Dispatch,
+            Fixed::ExecuteIndirect { .. } => Code::ExecuteIndirect,
+        }
+    }
 }
