@@ -1,15 +1,18 @@
 // The board: a recorder that keeps the device's state itself, which can be looked at.
 ghost use mathlib.Core.Path.{_≡_};
 ghost use Prim.Native.Nat.{ℕ, _<_, _^_};
+ghost use mathlib.Core.Bool.{cond};
+ghost use lib.Dec.{ltb};
 ghost use Rattle.command_list.specs.Commands.{byteOf};
-ghost use Rattle.device.specs.Devices.{start};
-ghost use Rattle.board.specs.Boards.{boarded, deviceOf, halvesOf, slotOf, viewOf, latestOf, Spares};
+ghost use Rattle.device.specs.Devices.{start, unset};
+ghost use Rattle.board.specs.Boards.{boarded, deviceOf, halvesOf, slotOf, viewOf, noView, latestOf, Spares};
 use crate::changes::fresh;
 use crate::state::RootSlot;
 use crate::state::State;
 use crate::state::View;
 use crate::steps::count_code;
 use crate::steps::step;
+use crate::steps::step_record;
 use command_list::code::Code;
 use command_list::command::Barrier;
 use command_list::command::Command;
@@ -17,9 +20,11 @@ use command_list::command::Fixed;
 use command_list::command::Half;
 use command_list::fault::FULL;
 use command_list::fault::Fault;
+use command_list::record::Record;
 use device::recorder::Recorder;
 use list_writer::writer::size;
 use list_writer::writer::size_fixed;
+use list_writer::writer::size_record;
 
 #[derive(Drop)]
 pub struct Board {
@@ -67,7 +72,7 @@ impl Board {
 
     // What a root slot holds; past the last one, nothing.
     pub fn slot(&self, half: Half, i: u8) -> RootSlot
-        ensures { λ r. ⌜ (i < 64 → slotOf r ≡ deviceOf (now (self .entry) .state) .halves half .slots i) ⌝ }
+        ensures { λ r. ⌜ slotOf r ≡ cond (ltb i 64) (deviceOf (now (self .entry) .state) .halves half .slots i) unset ⌝ }
     {
         if i >= 64 {
             return RootSlot::Unset;
@@ -80,7 +85,7 @@ impl Board {
 
     // How often a root slot was written.
     pub fn slot_writes(&self, half: Half, i: u8) -> u64
-        ensures { λ r. ⌜ (i < 64 → r ≡ deviceOf (now (self .entry) .state) .halves half .writes i) ⌝ }
+        ensures { λ r. ⌜ r ≡ cond (ltb i 64) (deviceOf (now (self .entry) .state) .halves half .writes i) 0 ⌝ }
     {
         if i >= 64 {
             return 0;
@@ -93,7 +98,7 @@ impl Board {
 
     // A vertex view.
     pub fn vertex(&self, i: u8) -> View
-        ensures { λ r. ⌜ (i < 16 → viewOf r ≡ deviceOf (now (self .entry) .state) .vertices i) ⌝ }
+        ensures { λ r. ⌜ viewOf r ≡ cond (ltb i 16) (deviceOf (now (self .entry) .state) .vertices i) (viewOf noView) ⌝ }
     {
         if i >= 16 {
             return View {
@@ -107,7 +112,7 @@ impl Board {
 
     // How often a vertex slot was written.
     pub fn vertex_writes(&self, i: u8) -> u64
-        ensures { λ r. ⌜ (i < 16 → r ≡ deviceOf (now (self .entry) .state) .vertexWrites i) ⌝ }
+        ensures { λ r. ⌜ r ≡ cond (ltb i 16) (deviceOf (now (self .entry) .state) .vertexWrites i) 0 ⌝ }
     {
         if i >= 16 {
             return 0;
@@ -141,6 +146,16 @@ pub impl Recorder for Board as BoardRecorder {
             return Err(FULL);
         }
         step(&mut self.state, fixed);
+        self.rest -= bytes;
+        Ok(())
+    }
+
+    fn replay(&mut self, record: Record) -> Result<(), Fault> {
+        let bytes = size_record(record)?;
+        if self.rest < bytes {
+            return Err(FULL);
+        }
+        step_record(&mut self.state, record);
         self.rest -= bytes;
         Ok(())
     }

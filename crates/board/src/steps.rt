@@ -4,7 +4,7 @@ ghost use mathlib.Core.Bool.{true};
 ghost use Prim.Native.Nat.{ℕ, _<_, _^_, _+_, _-_};
 ghost use lib.ListN.{getD};
 ghost use Rattle.command_list.specs.Commands.{inRange, byteOf, codeOf};
-ghost use Rattle.command_list.specs.Seen.{fixedCommand};
+ghost use Rattle.command_list.specs.Seen.{commandOf, fixedCommand};
 ghost use Rattle.device.specs.Devices.{effect as effectOf, step as stepOf, counted, attached, drawn};
 ghost use Rattle.board.specs.Boards.{deviceOf, viewOf, Spare, Spares};
 use crate::changes::attach;
@@ -19,6 +19,7 @@ use crate::state::State;
 use crate::state::View;
 use command_list::code::Code;
 use command_list::command::Fixed;
+use command_list::record::Record;
 
 // A vertex view is replaced, which is a write.
 fn put_vertex(state: &mut State, i: usize, view: View)
@@ -107,4 +108,18 @@ pub fn step(state: &mut State, fixed: Fixed)
 {
     effect(state, fixed);
     count_code(state, fixed.code());
+}
+
+// A record that was read.
+pub fn step_record(state: &mut State, record: Record)
+    requires ranged { ⌜ inRange (commandOf «record») ≡ true ⌝ }
+    requires room { ⌜ Spares (deviceOf (now state)) 1 (2 ^ 64 - 1) ⌝ }
+    ensures { λ _. ⌜ deviceOf (now (state .exit)) ≡ stepOf (commandOf («record» .entry)) (deviceOf (now (state .entry))) ⌝ }
+{
+    match record {
+        Record::BeginEvent(_) => count_code(state, Code::BeginEvent),
+        Record::OMSetRenderTargets(_) => count_code(state, Code::OMSetRenderTargets),
+        Record::ResourceBarrier(_) => count_code(state, Code::ResourceBarrier),
+        Record::Fixed(fixed) => step(state, fixed),
+    }
 }

@@ -10,8 +10,10 @@ use command_list::command::Command;
 use command_list::command::Fixed;
 use command_list::fault::FULL;
 use command_list::fault::Fault;
+use command_list::record::Record;
 use list_writer::writer::size;
 use list_writer::writer::size_fixed;
+use list_writer::writer::size_record;
 
 pub struct Ration<R> {
     below: R,
@@ -73,6 +75,13 @@ pub impl<R: Recorder> Recorder for Ration<R> as RationRecorder {
     fn record(&mut self, fixed: Fixed) -> Result<(), Fault> {
         let bytes = self.allowed(size_fixed(fixed)?)?;
         self.below.record(fixed)?;
+        self.rest -= bytes;
+        Ok(())
+    }
+
+    fn replay(&mut self, record: Record) -> Result<(), Fault> {
+        let bytes = self.allowed(size_record(record)?)?;
+        self.below.replay(record)?;
         self.rest -= bytes;
         Ok(())
     }

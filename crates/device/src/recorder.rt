@@ -4,12 +4,13 @@ ghost use denote.Ref.{now};
 ghost use Rattle.command_list.specs.declared.command.Half.the-variants.{Graphics, Compute};
 ghost use Rattle.command_list.specs.Commands.{BeginEvent, EndEvent, SetDescriptorHeaps, SetRootSignature, SetPipelineState, IASetPrimitiveTopology, IASetVertexBuffers, SetRoot32BitConstant, SetRootDescriptorTable, SetRootConstantBufferView, OMSetRenderTargets, ClearRenderTargetView, RSSetViewports, RSSetScissorRects, ResourceBarrier, DrawInstanced, Dispatch, ExecuteIndirect};
 ghost use lib.ListN.{getD};
-ghost use Rattle.command_list.specs.Seen.{fixedCommand};
+ghost use Rattle.command_list.specs.Seen.{commandOf, fixedCommand};
 ghost use Rattle.device.specs.Meaning.{Meaning, Asked, Anew};
 use command_list::command::Barrier;
 use command_list::command::Fixed;
 use command_list::command::Half;
 use command_list::fault::Fault;
+use command_list::record::Record;
 
 // A recorder takes commands into its space. A command is refused exactly when it has no record that
 // the reader takes or when that record is longer than the space; it then alters nothing.
@@ -27,6 +28,10 @@ pub trait Recorder {
     // Any command of a fixed width.
     fn record(&mut self, fixed: Fixed) -> Result<(), Fault>
         ensures { λ r. ⌜ Asked (meaning (now (self .entry))) (fixedCommand fixed) r (meaning (now (self .exit))) ⌝ };
+
+    // A record that was read.
+    fn replay(&mut self, record: Record) -> Result<(), Fault>
+        ensures { λ r. ⌜ Asked (meaning (now (self .entry))) (commandOf («record» .entry)) r (meaning (now (self .exit))) ⌝ };
 
     // Code 1.
     fn begin_event(&mut self, label: &[u16]) -> Result<(), Fault>

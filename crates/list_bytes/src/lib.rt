@@ -5,7 +5,7 @@ ghost use lib.Dec.{ltb};
 ghost use lib.ListN.{length, take};
 ghost use denote.Ref.{now};
 ghost use Rattle.std.specs.Results.{Cases};
-ghost use Rattle.command_list.specs.Seen.{IsFault, fixedCommand, givenCommand};
+ghost use Rattle.command_list.specs.Seen.{IsFault, commandOf, fixedCommand, givenCommand};
 ghost use Rattle.list_bytes.specs.Listed.{isWhole, listed, Opened, Added};
 use command_list::command::Barrier;
 use command_list::command::Command;
@@ -13,9 +13,11 @@ use command_list::command::Fixed;
 use command_list::fault::FULL;
 use command_list::fault::Fault;
 use command_list::reader::MOST_BYTES;
+use command_list::record::Record;
 use device::recorder::Recorder;
 use list_writer::writer::append;
 use list_writer::writer::append_fixed;
+use list_writer::writer::append_record;
 
 // The caller's bytes and how many of them are in use.
 #[derive(Drop)]
@@ -39,6 +41,15 @@ impl<'a> Sheet<'a> {
     {
         let end = self.len;
         let end = append(self.bytes, end, command)?;
+        self.len = end;
+        Ok(())
+    }
+
+    fn append_record(&mut self, record: Record) -> Result<(), Fault>
+        ensures { λ r. ⌜ Added (commandOf («record» .entry)) (now (now (self .entry) .bytes)) (now (self .entry) .len) r (now (self .exit) .len) (now (now (self .exit) .bytes)) ⌝ }
+    {
+        let end = self.len;
+        let end = append_record(self.bytes, end, record)?;
         self.len = end;
         Ok(())
     }
@@ -115,6 +126,10 @@ pub impl<'a> Recorder for ListBytes<'a> as ListBytesRecorder {
 
     fn record(&mut self, fixed: Fixed) -> Result<(), Fault> {
         self.sheet.append_fixed(fixed)
+    }
+
+    fn replay(&mut self, record: Record) -> Result<(), Fault> {
+        self.sheet.append_record(record)
     }
 
     fn begin_event(&mut self, label: &[u16]) -> Result<(), Fault> {

@@ -365,6 +365,21 @@ fn is_record_readable(record: Record) -> bool
     }
 }
 
+// How long the record of a record's command is; refused where it has none that the reader takes.
+pub fn size_record(record: Record) -> Result<usize, Fault>
+    ensures { λ r. ⌜ Measured (commandOf («record» .entry)) r ⌝ }
+{
+    if !is_record_readable(record) {
+        return Err(FULL);
+    }
+    match record {
+        Record::BeginEvent(units) => Ok(3 + 2 * units.len()),
+        Record::OMSetRenderTargets(handles) => Ok(4 + 8 * handles.len()),
+        Record::ResourceBarrier(entries) => Ok(3 + 17 * entries.len()),
+        Record::Fixed(fixed) => Ok(record_size(fixed)),
+    }
+}
+
 // Lists that were read are written as the file's own bytes.
 fn append_units(bytes: &mut [u8], end: usize, units: &[u8]) -> Result<usize, Fault>
     requires { ⌜ readable (BeginEvent (every 2 (now units))) ≡ true ⌝ }

@@ -1,4 +1,3 @@
-use Rattle.command_list.specs.Commands.{Command}
 use Rattle.command_list.specs.Seen.{fixedCommand}
 use Rattle.list_bytes.proofs.Listing.{added-asked, added-sound}
 use Rattle.list_bytes.proofs.ListBytesRecorder.record.Needs as need
