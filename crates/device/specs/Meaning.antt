@@ -2,7 +2,7 @@
 use mathlib.Core.Path.{_≡_}
 use mathlib.Core.List.{List, [], _∷_, _++_}
 use mathlib.Core.Bool.{true}
-use Prim.Native.Nat.{ℕ, _+_, _≤_, min}
+use Prim.Native.Nat.{ℕ, _+_, _≤_, _<_, min}
 use Rattle.std.specs.declared.option.Option.{Option}
 use Rattle.std.specs.declared.option.Option.the-variants.{Some, None}
 use Rattle.std.specs.declared.result.Result.{Result}
@@ -55,6 +55,11 @@ pub record Refused (m : Meaning) (c : Command) (f : Fault) (n : Meaning) : Type 
 abbrev pub Asked : Meaning → Command → Result Unit Fault → Meaning → Type 0
 Asked m c (Ok u) n = Taken m c n
 Asked m c (Err f) n = Refused m c f n
+
+-- what it does with commands that are taken together or not at all
+abbrev pub Together : Meaning → List Command → Result Unit Fault → Meaning → Type 0
+Together m cs (Ok u) n = Recorded m cs n
+Together m cs (Err f) n = IsFault f 10 0 × (m .space < sizes cs) × (n ≡ m)
 
 -- what it does when it starts anew
 abbrev pub cleared : Option (List Command) → Option (List Command)

@@ -7,8 +7,13 @@ ghost use lib.ListN.{length};
 ghost use Rattle.std.specs.Results.{Cases};
 ghost use Rattle.command_list.specs.Commands.{Command};
 ghost use Rattle.command_list.specs.Files.{accepted, isAccepted, file as fileSaid};
+ghost use Rattle.board.specs.Boards.{deviceOf};
 ghost use Rattle.device.specs.Meaning.{Recorded};
+ghost use Rattle.list_bytes.specs.Listed.{listed};
+ghost use Rattle.list_file.specs.Passing.{Stops};
 ghost use Rattle.list_play.specs.Playing.{Played};
+use board::board::Board;
+use board::board::BoardRecorder;
 use command_list::fault::FULL;
 use command_list::fault::Fault;
 use command_list::reader::Reader;
@@ -39,4 +44,13 @@ pub fn play<R: Recorder>(recorder: &mut R, file: &[u8]) -> Result<usize, Fault>
     }
     play_all(recorder, file)?;
     Ok(count)
+}
+
+// A board on which nothing but a list file was played. Its state is what the file's bytes mean.
+pub fn board_of(file: &[u8]) -> Result<Board, Fault>
+    ensures { λ r. ⌜ Cases r (λ b. (isAccepted (fileSaid (now (file .entry))) ≡ true) × (deviceOf (b .state) ≡ listed (now (file .entry)) (length (now (file .entry))) .device)) (λ f. Stops (fileSaid (now (file .entry))) f) ⌝ }
+{
+    let mut board = Board::new(file.len());
+    let _ = play(&mut board, file)?;
+    Ok(board)
 }
