@@ -2,7 +2,7 @@
 use command_list::command::Fixed;
 
 // What a root slot holds.
-#[derive(Clone, Copy)]
+#[derive(Clone, Copy, PartialEq)]
 pub enum RootSlot {
     Unset,
     Table(u64),
@@ -19,7 +19,7 @@ pub struct RootHalf {
 }
 
 // A vertex view.
-#[derive(Clone, Copy)]
+#[derive(Clone, Copy, PartialEq)]
 pub struct View {
     pub address: u64,
     pub size: u32,

@@ -15,6 +15,7 @@ use list_writer::writer::size;
 use list_writer::writer::size_fixed;
 use list_writer::writer::size_record;
 
+#[derive(Drop)]
 pub struct Ration<R> {
     below: R,
     rest: usize,
