@@ -5,3 +5,5 @@ mod damaged;
 mod long_lists;
 #[cfg(test)]
 mod plain;
+#[cfg(test)]
+mod recorders;
