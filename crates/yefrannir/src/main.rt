@@ -21,6 +21,7 @@ use list_bytes::measured;
 use list_file::check;
 use list_file::records_are_known;
 use list_file::rewrite;
+use list_file::write;
 use list_play::board_of;
 use show::Operands;
 use show::OperandsDisplay;
@@ -130,6 +131,15 @@ fn plot_list(bytes: &mut [u8]) -> Result<usize, Fault> {
     }
 }
 
+// Whether the plot, written in one call, and its list, rewritten, have the list's bytes.
+fn bytes_agree(list: &[u8]) -> Result<bool, Fault> {
+    let mut written = [0u8; 1024];
+    let end = write(&season_plot::commands(), &mut written)?;
+    let mut again = [0u8; 1024];
+    let size = rewrite(list, &mut again)?;
+    Ok(written.get(0..end) == Some(list) && again.get(0..size) == Some(list))
+}
+
 // Whether a board that was given the plot and one that its list was played on show the same.
 fn boards_agree(list: &[u8]) -> Result<bool, Fault> {
     let mut board = Board::new(ALLOWANCE);
@@ -145,13 +155,10 @@ fn show_plot(rt: &(impl Print + Alloc), list: &[u8]) -> Result<(), AnyError> {
         Ok(count) => count,
         Err(fault) => return Err(refusal(rt, "the plot", fault)),
     };
-    let mut again = [0u8; 1024];
-    let size = match rewrite(list, &mut again) {
-        Ok(size) => size,
+    match bytes_agree(list) {
+        Ok(true) => {}
+        Ok(false) => return Err("the rewritten plot has other bytes".into()),
         Err(fault) => return Err(refusal(rt, "the plot", fault)),
-    };
-    if again.get(0..size) != Some(list) {
-        return Err("the rewritten plot has other bytes".into());
     }
     println!(
         rt,
