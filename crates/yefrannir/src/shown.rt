@@ -11,6 +11,7 @@ use board::state::ViewPartialEq;
 use command_list::code::Code;
 use command_list::command::Fixed;
 use command_list::command::Half;
+use command_list::command::HalfPartialEq;
 use command_list::reader::MOST_BYTES;
 use command_list::reader::Reader;
 use command_list::record::Record;
@@ -119,7 +120,8 @@ fn print_counts(rt: &impl Print, board: &Board) -> Result<(), AnyError> {
     Ok(())
 }
 
-// Plays a list that is accepted on a board: each draw with what it finds, then the counts.
+// Plays a list on a board, up to the first record that is refused: each draw with what it finds,
+// and, of a list that is taken whole, the counts.
 pub fn print_play(rt: &(impl Print + Alloc), what: &str, file: &[u8]) -> Result<(), AnyError> {
     let mut reader = match Reader::open(file) {
         Ok(reader) => reader,
@@ -157,6 +159,49 @@ fn same_half(a: &Board, b: &Board, half: Half) -> bool {
     same
 }
 
+// The operands of a draw or a dispatch with its code; of another command, only the code.
+fn draw_words(fixed: Fixed) -> (u8, [u64; 5]) {
+    let words = match fixed {
+        Fixed::DrawInstanced {
+            vertices,
+            instances,
+            first_vertex,
+            first_instance,
+        } => [
+            u64::from(vertices),
+            u64::from(instances),
+            u64::from(first_vertex),
+            u64::from(first_instance),
+            0,
+        ],
+        Fixed::Dispatch { x, y, z } => [u64::from(x), u64::from(y), u64::from(z), 0, 0],
+        Fixed::ExecuteIndirect {
+            half,
+            special,
+            count,
+            buffer,
+            offset,
+        } => [
+            u64::from(half == Half::Compute),
+            u64::from(special.unwrap_or(255)),
+            u64::from(count),
+            u64::from(buffer),
+            offset,
+        ],
+        _ => [0; 5],
+    };
+    (fixed.code().byte(), words)
+}
+
+// Whether the latest draws or dispatches of two boards are the same.
+fn same_latest(a: Option<Fixed>, b: Option<Fixed>) -> bool {
+    match (a, b) {
+        (None, None) => true,
+        (Some(a), Some(b)) => draw_words(a) == draw_words(b),
+        _ => false,
+    }
+}
+
 // Whether two boards show the same.
 pub fn same(a: &Board, b: &Board) -> bool {
     let mut same = same_half(a, b, Half::Graphics) && same_half(a, b, Half::Compute);
@@ -168,5 +213,5 @@ pub fn same(a: &Board, b: &Board) -> bool {
             same = same && a.count(code) == b.count(code);
         }
     }
-    same && a.pipeline() == b.pipeline()
+    same && a.pipeline() == b.pipeline() && same_latest(a.latest(), b.latest())
 }
