@@ -78,7 +78,7 @@ fn record(file: &[u8], at: usize) -> Result<usize, u8> {
 }
 
 // How many records a file has, or the number and the place of its first refusal.
-pub fn read(file: &[u8]) -> Result<usize, (u8, usize)> {
+pub(crate) fn read(file: &[u8]) -> Result<usize, (u8, usize)> {
     if file.len() > 65536 || byte(file, 0) != 1 {
         return Err((21, 0));
     }

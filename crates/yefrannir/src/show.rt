@@ -13,7 +13,7 @@ use command_list::record::Units;
 use std::fmt;
 
 // The name that Direct3D gives a code's call.
-pub fn name(code: Code) -> &'static str {
+pub(crate) fn name(code: Code) -> &'static str {
     match code {
         Code::BeginEvent => "BeginEvent",
         Code::EndEvent => "EndEvent",
@@ -41,7 +41,7 @@ pub fn name(code: Code) -> &'static str {
 }
 
 // What a refusal's number says.
-pub fn reason(number: Number) -> &'static str {
+pub(crate) fn reason(number: Number) -> &'static str {
     match number {
         Number::Range => "something is out of its range",
         Number::Text => "a label is not UTF-8",

@@ -122,7 +122,11 @@ fn print_counts(rt: &impl Print, board: &Board) -> Result<(), AnyError> {
 
 // Plays a list on a board, up to the first record that is refused: each draw with what it finds,
 // and, of a list that is taken whole, the counts.
-pub fn print_play(rt: &(impl Print + Alloc), what: &str, file: &[u8]) -> Result<(), AnyError> {
+pub(crate) fn print_play(
+    rt: &(impl Print + Alloc),
+    what: &str,
+    file: &[u8],
+) -> Result<(), AnyError> {
     let mut reader = match Reader::open(file) {
         Ok(reader) => reader,
         Err(fault) => return Err(refusal(rt, what, fault)),
@@ -203,7 +207,7 @@ fn same_latest(a: Option<Fixed>, b: Option<Fixed>) -> bool {
 }
 
 // Whether two boards show the same.
-pub fn same(a: &Board, b: &Board) -> bool {
+pub(crate) fn same(a: &Board, b: &Board) -> bool {
     let mut same = same_half(a, b, Half::Graphics) && same_half(a, b, Half::Compute);
     for i in 0..16 {
         same = same && a.vertex(i) == b.vertex(i) && a.vertex_writes(i) == b.vertex_writes(i);

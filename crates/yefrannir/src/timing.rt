@@ -30,7 +30,7 @@ fn told(rt: &impl Print, what: &str, bytes: usize, nanos: u128) -> Result<(), An
 }
 
 // Reads a list once and rewrites it once, with the time of each.
-pub fn time_list(
+pub(crate) fn time_list(
     rt: &(impl Print + Clock + Alloc),
     what: &str,
     list: &[u8],
@@ -53,7 +53,7 @@ pub fn time_list(
 }
 
 // The same of a list of 64 KiB of mixed records, which is written first.
-pub fn time_sample(rt: &(impl Print + Clock + Alloc)) -> Result<(), AnyError> {
+pub(crate) fn time_sample(rt: &(impl Print + Clock + Alloc)) -> Result<(), AnyError> {
     let mut bytes = [0u8; MOST_BYTES];
     let start = Instant::now(rt)?;
     let end = fill(&mut bytes);
