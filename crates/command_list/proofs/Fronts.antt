@@ -1,11 +1,11 @@
 -- The front of what is left of a file.
-use Rattle.std.proofs.Common.{◌≡◌, ℕ, zero, suc, ◌+◌, ◌-◌, ◌*◌, ◌<◌, ◌≤◌, Bool, true, false, cond, ◌||◌, eqb, ltb, ◌⊎◌, List, [], ◌∷◌, ◌++◌, length, get_or, take, drop, Option, sym, refl, ap, ◌∙◌, subst, ap₂, inl, inr, ⊎_elim, arith}
+use Rattle.std.proofs.Common.{◌≡◌, ℕ, zero, suc, ◌+◌, ◌-◌, ◌*◌, ◌<◌, ◌≤◌, true, false, ◌||◌, eqb, ltb, ◌⊎◌, List, [], ◌∷◌, length, get_or, take, drop, Option, sym, refl, ap, ◌∙◌, ⊎_elim, arith}
 use Rattle.std.proofs.lemmas.List.{take_rest}
 use Rattle.std.proofs.lemmas.Bool.{cond-true, cond-false, eq-eqb, ne_eqb, lt-ltb, le-ltb, or_left, or_right, or_from, or_parts, and_left, and_right, lt-leb, eqb-false, ltb-false, cases_Bool}
 use Rattle.command_list.specs.declared.code.Code.{Code}
 use Rattle.command_list.specs.Commands.{Command}
 use Rattle.command_list.specs.Files.{has_version}
-use Rattle.command_list.specs.Decoding.{Decoded, takes, wrong, decode, decode_named, code_named, Front, ended, first, broken, sized, front}
+use Rattle.command_list.specs.Decoding.{Decoded, takes, wrong, decode_named, code_named, ended, first, broken, sized, front}
 
 -- how long a record says it is
 abbrev pub said : List ℕ → ℕ

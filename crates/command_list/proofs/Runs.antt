@@ -1,5 +1,5 @@
 -- Numbers of equal widths, one behind the other.
-use Rattle.std.proofs.Common.{◌≡◌, ℕ, zero, suc, ◌+◌, ◌-◌, ◌*◌, ◌/◌, ◌%◌, ◌<◌, ◌≤◌, Bool, true, false, cond, not, ◌&&◌, ◌||◌, eqb, ltb, leb, ◌⊎◌, List, [], ◌∷◌, ◌++◌, length, get_or, take, drop, is_some, Some, None, Option, unwrap_or, sym, refl, ap, ◌∙◌, subst, ap₂, inl, inr, ⊎_elim, add-zero, add_assoc, suc-mul, mul-zero, zero-add, zero-mul, mul-suc, arith, length-drop}
+use Rattle.std.proofs.Common.{◌≡◌, ℕ, zero, suc, ◌+◌, ◌-◌, ◌*◌, ◌/◌, ◌%◌, ◌<◌, ◌≤◌, Bool, true, false, cond, ◌&&◌, eqb, leb, ◌⊎◌, List, [], ◌∷◌, ◌++◌, length, get_or, take, drop, is_some, Some, None, Option, unwrap_or, sym, refl, ap, ◌∙◌, ap₂, ⊎_elim, add-zero, add_assoc, suc-mul, mul-zero, zero-add, zero-mul, mul-suc, arith, length-drop}
 use native.Mathlib.Nat.{mul-div_right, mul-mod_right}
 use Rattle.std.specs.List.{slice_get}
 use Rattle.std.specs.Int.Digits.{number_from_digits}
@@ -10,8 +10,8 @@ use Rattle.command_list.specs.declared.command.Barrier.{Barrier}
 use Rattle.command_list.specs.declared.command.BarrierType.{BarrierType}
 use Rattle.command_list.specs.declared.code.Code.TheVariants as code
 use Rattle.command_list.specs.Numbers.{number_at, numbers}
-use Rattle.command_list.specs.Commands.{Command, BeginEvent, OMSetRenderTargets, ResourceBarrier, ends_with_zero}
-use Rattle.command_list.specs.Decoding.{sum, repeated, type_of, barriers, then, Decoded, takes, wrong, checked, decode}
+use Rattle.command_list.specs.Commands.{BeginEvent, OMSetRenderTargets, ResourceBarrier, ends_with_zero}
+use Rattle.command_list.specs.Decoding.{sum, repeated, type_of, barriers, then, takes, wrong, checked, decode}
 use Rattle.command_list.proofs.Places.{number_1}
 use Rattle.command_list.specs.Seen.{every, entry_at, entry_numbers, entries_of}
 

@@ -1,5 +1,5 @@
 -- What a whole list file says.
-use Rattle.std.specs.Prelude.{ℕ, zero, suc, ◌+◌, Bool, true, false, cond, ◌&&◌, List, [], ◌∷◌, ◌++◌, length, drop, ◌==◌, nat_le, slice_index}
+use Rattle.std.specs.Prelude.{ℕ, zero, suc, ◌+◌, Bool, true, false, cond, ◌&&◌, List, [], ◌∷◌, length, drop, ◌==◌, nat_le, slice_index}
 use Rattle.std.specs.List.{flat_map}
 use Rattle.command_list.specs.Commands.{Command, record_of}
 use Rattle.command_list.specs.Decoding.{Front, ended, first, broken, front}

@@ -1,4 +1,6 @@
 // The list file: its commands, what its bytes say, and the reader.
+#![tactic(auto)]
+
 pub mod code;
 pub mod command;
 pub mod fault;

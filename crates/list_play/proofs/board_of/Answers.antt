@@ -8,7 +8,7 @@ use Rattle.list_play.proofs.board_of.Goals as goal
 pub returns : goal.returns
 returns c =
     let bs = c.args.file.now in
-    let w = c.in-ok-play.ensures in (
+    let w = c.in_ok-play.ensures in (
       ap is_accepted w.says,
       w.recorded.device ∙ ap (play w.commands) c.new-board.ensures.0 ∙ ap (λ v. play (commands_in v) start) (sym (ap file (take_all (length bs) bs (omega arith)) ∙ w.says)),
     )

@@ -3,5 +3,5 @@ use Rattle.command_list.specs.Files.{file}
 use Rattle.list_play.proofs.Passes.{accepted_some}
 use Rattle.list_play.proofs.play.Goals as goal
 
-pub overflow-sub-file : goal.overflow-sub-file
-overflow-sub-file g c = accepted_some c.args.file.now (holds_accepted (file c.args.file.now) _ c.in-ok-count.ensures)
+pub overflow_sub-file : goal.overflow_sub-file
+overflow_sub-file g c = accepted_some c.args.file.now (holds_accepted (file c.args.file.now) _ c.in_ok-count.ensures)

@@ -20,19 +20,19 @@ dispatch_arm : (x : Fixed) (a b c : ℕ) (s : State) → x ≡ fixed.Dispatch a 
 dispatch_arm x a b c s q = ap (λ f. drawn (fixed_command f) (device_of s)) q ∙ ap (λ f. effect (fixed_command f) (device_of s)) (sym q)
 
 pub returns-in-SetRootSignature : goal.returns-in-SetRootSignature
-returns-in-SetRootSignature c = in_arm _ _ c.args.state.now _ c.in-SetRootSignature.is c.sign-half.ensures
+returns-in-SetRootSignature c = in_arm _ _ c.args.state.now _ c.in-SetRootSignature.is c.sign_half.ensures
 
 pub returns-in-IASetVertexBuffers : goal.returns-in-IASetVertexBuffers
-returns-in-IASetVertexBuffers c = in_arm _ _ c.args.state.now _ c.in-IASetVertexBuffers.is c.put-vertex.ensures
+returns-in-IASetVertexBuffers c = in_arm _ _ c.args.state.now _ c.in-IASetVertexBuffers.is c.put_vertex.ensures
 
 pub returns-in-SetRoot32BitConstant : goal.returns-in-SetRoot32BitConstant
-returns-in-SetRoot32BitConstant c = in_arm _ _ c.args.state.now _ c.in-SetRoot32BitConstant.is c.put-half-word.ensures
+returns-in-SetRoot32BitConstant c = in_arm _ _ c.args.state.now _ c.in-SetRoot32BitConstant.is c.put_half_word.ensures
 
 pub returns-in-SetRootDescriptorTable : goal.returns-in-SetRootDescriptorTable
-returns-in-SetRootDescriptorTable c = in_arm _ _ c.args.state.now _ c.in-SetRootDescriptorTable.is c.put-half-slot.ensures
+returns-in-SetRootDescriptorTable c = in_arm _ _ c.args.state.now _ c.in-SetRootDescriptorTable.is c.put_half_slot.ensures
 
 pub returns-in-SetRootConstantBufferView : goal.returns-in-SetRootConstantBufferView
-returns-in-SetRootConstantBufferView c = in_arm _ _ c.args.state.now _ c.in-SetRootConstantBufferView.is c.put-half-slot-in-SetRootConstantBufferView.ensures
+returns-in-SetRootConstantBufferView c = in_arm _ _ c.args.state.now _ c.in-SetRootConstantBufferView.is c.put_half_slot-in-SetRootConstantBufferView.ensures
 
 pub returns-in-DrawInstanced : goal.returns-in-DrawInstanced
 returns-in-DrawInstanced c = c.draw.ensures ∙ draw_arm _ _ _ _ _ c.args.state.now c.in-DrawInstanced.is
@@ -43,5 +43,5 @@ returns-in-Dispatch c = c.draw-in-Dispatch.ensures ∙ dispatch_arm _ _ _ _ c.ar
 pub returns-in-ExecuteIndirect : goal.returns-in-ExecuteIndirect
 returns-in-ExecuteIndirect c =
     let a = c.in-ExecuteIndirect in
-    c.wipe-half.ensures ∙ ap (on_half a.half (wiped a.special)) c.draw-in-ExecuteIndirect.ensures
+    c.wipe_half.ensures ∙ ap (on_half a.half (wiped a.special)) c.draw-in-ExecuteIndirect.ensures
     ∙ ap (λ f. effect (fixed_command f) (device_of c.args.state.now)) (sym a.is)

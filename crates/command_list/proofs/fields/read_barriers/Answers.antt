@@ -1,4 +1,4 @@
-use Rattle.std.proofs.Common.{◌≡◌, sym, ap, ◌∙◌, arith}
+use Rattle.std.proofs.Common.{sym, ap, ◌∙◌, arith}
 use Rattle.std.proofs.lemmas.Result.{err_from_is_err_and}
 use Rattle.std.proofs.lemmas.Bool.{cond-true, cond-false}
 use Rattle.command_list.specs.Decoding.{wrong}
@@ -6,15 +6,15 @@ use Rattle.command_list.specs.Seen.{number_of}
 use Rattle.command_list.proofs.Runs.{decode_barriers}
 use Rattle.command_list.proofs.fields.read_barriers.Goals as goal
 
-pub returns-in-err-in-range : goal.returns-in-err-in-range
-returns-in-err-in-range c =
-    let p = err_from_is_err_and c.from-residual.result c.from-residual.ensures.1 in
-    let no = c.in-err-in-range.ensures in
+pub returns-in_err-in_range : goal.returns-in_err-in_range
+returns-in_err-in_range c =
+    let p = err_from_is_err_and c.from_residual.result c.from_residual.ensures.1 in
+    let no = c.in_err-in_range.ensures in
     rw (p.1, p.2)
     (ap (λ n. wrong (number_of n)) no.0
-    ∙ sym (decode_barriers c.args.rest.now (omega (arith, c.if-n-eq0.false)) c.if-n-ne0.false ∙ cond-false _ _ _ (sym c.types-known.ensures ∙ no.1)))
+    ∙ sym (decode_barriers c.args.rest.now (omega (arith, c.if-n-eq0.false)) c.if-n-ne0.false ∙ cond-false _ _ _ (sym c.types_known.ensures ∙ no.1)))
 
 pub returns : goal.returns
 returns c =
     sym (decode_barriers c.args.rest.now (omega (arith, c.if-n-eq0.false)) c.if-n-ne0.false
-    ∙ cond-true _ _ _ (sym c.types-known.ensures ∙ c.in-ok-in-range.ensures))
+    ∙ cond-true _ _ _ (sym c.types_known.ensures ∙ c.in_ok-in_range.ensures))

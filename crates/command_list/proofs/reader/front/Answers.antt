@@ -1,8 +1,8 @@
-use Rattle.std.proofs.Common.{◌≡◌, ℕ, ◌+◌, ◌-◌, ◌<◌, ◌≤◌, List, length, take, drop, Some, None, sym, refl, ap, ◌∙◌, inl, inr, arith, length-drop, ltb-false, ltb-true, eqb-true, leb-false, leb-true}
+use Rattle.std.proofs.Common.{◌≡◌, ℕ, ◌-◌, List, length, take, drop, Some, None, sym, refl, ap, ◌∙◌, inl, inr, arith, length-drop, ltb-false, ltb-true, eqb-true, leb-false, leb-true}
 use borrow.Author.Tests.{eqb-false}
 use Rattle.std.proofs.lemmas.List.{take_rest}
-use Rattle.command_list.specs.Decoding.{decode_named, wrong}
-use Rattle.command_list.proofs.Fronts.{front_none, front_short, front_cut, front_read, said}
+use Rattle.command_list.specs.Decoding.{wrong}
+use Rattle.command_list.proofs.Fronts.{front_none, front_short, front_cut, front_read}
 use Rattle.command_list.proofs.reader.front.Goals as goal
 use Rattle.command_list.proofs.reader.front.Goals.{then-n-eq0-via-then-n-eq0, then-n-eq0-via-else-n-eq0+then-rest-n}
 
@@ -19,16 +19,16 @@ returns-then-n-eq0 c =
       | then-n-eq0-via-else-n-eq0+then-rest-n w ↦ inr (omega (arith, w.if-rest-n.true, behind bs))
     ]))
 
-pub returns-in-default-named : goal.returns-in-default-named
-returns-in-default-named c =
+pub returns-in_default-named : goal.returns-in_default-named
+returns-in_default-named c =
     let bs = c.args.left.now in
-    front_read {m = wrong 23} None bs (sym c.in-default-named.is ∙ c.named.ensures) refl (omega (arith, ltb-false)) (omega (arith, c.if-n-eq0.false)) (omega (arith, c.if-rest-n.false, behind bs))
+    front_read {m = wrong 23} None bs (sym c.in_default-named.is ∙ c.named.ensures) refl (omega (arith, ltb-false)) (omega (arith, c.if-n-eq0.false)) (omega (arith, c.if-rest-n.false, behind bs))
 
 pub returns-in-empty : goal.returns-in-empty
 returns-in-empty c = sym (front_none c.args.left.now (omega (arith, eqb-true, leb-true, ltb-true)))
 
-pub returns-in-default : goal.returns-in-default
-returns-in-default c = sym (front_short c.args.left.now (omega (arith, eqb-false, leb-false, ltb-false)) (omega (arith, ltb-true, ltb-false, leb-true, leb-false)))
+pub returns-in_default : goal.returns-in_default
+returns-in_default c = sym (front_short c.args.left.now (omega (arith, eqb-false, leb-false, ltb-false)) (omega (arith, ltb-true, ltb-false, leb-true, leb-false)))
 
 pub returns-in-Ok : goal.returns-in-Ok
 returns-in-Ok c =

@@ -24,8 +24,8 @@ offset-bounds-units-n c = omega (arith, room c)
 pub bounds-units-n : goal.bounds-units-n
 bounds-units-n c = omega (arith, room (goal.at.bounds-units-n c).In-Some)
 
-pub overflow-add-n : goal.overflow-add-n
-overflow-add-n c = omega (arith, room (goal.at.overflow-add-n c).In-Some)
+pub overflow_add-n : goal.overflow_add-n
+overflow_add-n c = omega (arith, room (goal.at.overflow_add-n c).In-Some)
 
 pub loop-unit-preserved : goal.loop-unit-preserved
 loop-unit-preserved c =

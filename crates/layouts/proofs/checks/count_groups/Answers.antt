@@ -2,8 +2,8 @@ use Rattle.std.proofs.Common.{◌<◌, ◌≤◌, length, get_or, None, arith}
 use Rattle.layouts.proofs.Steps.{group_few, groups_more, groups_all}
 use Rattle.layouts.proofs.checks.count_groups.Goals as goal
 
-pub overflow-add-n : goal.overflow-add-n
-overflow-add-n c =
+pub overflow_add-n : goal.overflow_add-n
+overflow_add-n c =
     omega (arith, c.loop-info.invariant.1, group_few c.args.slot (get_or c.args.infos.now c.loop-info.info-index None))
 
 pub loop-info-preserved : goal.loop-info-preserved

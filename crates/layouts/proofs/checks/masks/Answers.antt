@@ -10,10 +10,10 @@ loop-info-init c = (gathers_none is_table c.args.infos.now, gathers_none is_unif
 pub loop-info-preserved : goal.loop-info-preserved
 loop-info-preserved c =
     let h : c.loop-info.info-index < length c.args.infos.now = omega arith in (
-      gathers_more is_table c.args.infos.now c.loop-info.info-index c.loop-info.tables _ h c.loop-info.invariant.0 c.table-mask-tables.ensures,
-      gathers_more is_uniform c.args.infos.now c.loop-info.info-index c.loop-info.uniforms _ h c.loop-info.invariant.1 c.uniform-mask-uniforms.ensures,
-      or_lt 64 c.loop-info.tables _ c.loop-info.invariant.2 c.table-mask-tables.type-inv,
-      or_lt 64 c.loop-info.uniforms _ c.loop-info.invariant.3 c.uniform-mask-uniforms.type-inv,
+      gathers_more is_table c.args.infos.now c.loop-info.info-index c.loop-info.tables _ h c.loop-info.invariant.0 c.table_mask-tables.ensures,
+      gathers_more is_uniform c.args.infos.now c.loop-info.info-index c.loop-info.uniforms _ h c.loop-info.invariant.1 c.uniform_mask-uniforms.ensures,
+      or_lt 64 c.loop-info.tables _ c.loop-info.invariant.2 c.table_mask-tables.type-inv,
+      or_lt 64 c.loop-info.uniforms _ c.loop-info.invariant.3 c.uniform_mask-uniforms.type-inv,
     )
 
 pub returns : goal.returns

@@ -9,7 +9,7 @@ pub invariant-of-result-2 : goal.invariant-of-result-2
 invariant-of-result-2 c =
     let bs = c.args.bytes.now in
     let l = length-set bs 0 1 in
-    (omega (arith, c.if-bytes-eq0.false), (omega (arith, c.if-bytes-gt-MOST-BYTES.false), (opened_whole bs (omega (arith, c.if-bytes-eq0.false)), tt)))
+    (omega (arith, c.if-bytes-eq0.false), (omega (arith, c.if-bytes-gt-MOST_BYTES.false), (opened_whole bs (omega (arith, c.if-bytes-eq0.false)), tt)))
 
 pub returns : goal.returns
-returns c = opened_some _ (omega (arith, c.if-bytes-eq0.false)) c.if-bytes-gt-MOST-BYTES.false
+returns c = opened_some _ (omega (arith, c.if-bytes-eq0.false)) c.if-bytes-gt-MOST_BYTES.false

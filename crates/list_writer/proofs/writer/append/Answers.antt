@@ -12,13 +12,13 @@ in_arm : (x y : Given) (xs ys : List ℕ) (n : ℕ) (r : Result ℕ Fault) → x
 in_arm x y xs ys n r e t a = appended (given_command x) xs ys n r t (subst (λ z. Appended xs n (code_of (given_command z)) (fields (given_command z)) r ys) (sym e) a)
 
 pub returns-in-BeginEvent : goal.returns-in-BeginEvent
-returns-in-BeginEvent c = in_arm _ _ _ _ _ _ c.in-BeginEvent.is (sym c.is-readable.ensures ∙ c.if-not-is-readable.false) c.append-row.ensures
+returns-in-BeginEvent c = in_arm _ _ _ _ _ _ c.in-BeginEvent.is (sym c.is_readable.ensures ∙ c.if-not-is_readable.false) c.append_row.ensures
 
 pub returns-in-OMSetRenderTargets : goal.returns-in-OMSetRenderTargets
-returns-in-OMSetRenderTargets c = in_arm _ _ _ _ _ _ c.in-OMSetRenderTargets.is (sym c.is-readable.ensures ∙ c.if-not-is-readable.false) c.append-row-in-OMSetRenderTargets.ensures
+returns-in-OMSetRenderTargets c = in_arm _ _ _ _ _ _ c.in-OMSetRenderTargets.is (sym c.is_readable.ensures ∙ c.if-not-is_readable.false) c.append_row-in-OMSetRenderTargets.ensures
 
 pub returns-in-ResourceBarrier : goal.returns-in-ResourceBarrier
-returns-in-ResourceBarrier c = in_arm _ _ _ _ _ _ c.in-ResourceBarrier.is (sym c.is-readable.ensures ∙ c.if-not-is-readable.false) c.append-row-in-ResourceBarrier.ensures
+returns-in-ResourceBarrier c = in_arm _ _ _ _ _ _ c.in-ResourceBarrier.is (sym c.is_readable.ensures ∙ c.if-not-is_readable.false) c.append_row-in-ResourceBarrier.ensures
 
 pub returns-in-Fixed : goal.returns-in-Fixed
-returns-in-Fixed c = in_arm _ _ _ _ _ _ c.in-Fixed.is (sym c.is-readable.ensures ∙ c.if-not-is-readable.false) c.append-in-range.ensures
+returns-in-Fixed c = in_arm _ _ _ _ _ _ c.in-Fixed.is (sym c.is_readable.ensures ∙ c.if-not-is_readable.false) c.append_in_range.ensures

@@ -12,12 +12,12 @@ overflow-cast-row c =
     let p = c.args.handles.now in
     omega (arith, leb-true _ 8 (readable_targets (every 8 p) ∙ c.requires), length_every 8 p)
 
-pub append-row-requires : goal.append-row-requires
-append-row-requires c =
+pub append_row-requires : goal.append_row-requires
+append_row-requires c =
     let p = c.args.handles.now in
     omega (arith, leb-true _ 8 (readable_targets (every 8 p) ∙ c.requires), length_every 8 p, cut_total (8 * (length p / 8)) p (omega arith))
 
 pub returns : goal.returns
 returns c =
     let p = c.args.handles.now in
-    handles_read _ _ _ _ p _ (λ i. omega (arith, c.type-inv.handles i)) refl (omega (arith, leb-true _ 8 (readable_targets (every 8 p) ∙ c.requires), length_every 8 p)) c.append-row.ensures
+    handles_read _ _ _ _ p _ (λ i. omega (arith, c.type-inv.handles i)) refl (omega (arith, leb-true _ 8 (readable_targets (every 8 p) ∙ c.requires), length_every 8 p)) c.append_row.ensures

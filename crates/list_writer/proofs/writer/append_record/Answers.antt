@@ -12,13 +12,13 @@ in_arm : (x y : Record) (xs ys : List ℕ) (n : ℕ) (r : Result ℕ Fault) → 
 in_arm x y xs ys n r e t a = appended (command_of x) xs ys n r t (subst (λ z. Appended xs n (code_of (command_of z)) (fields (command_of z)) r ys) (sym e) a)
 
 pub returns-in-BeginEvent : goal.returns-in-BeginEvent
-returns-in-BeginEvent c = in_arm _ _ _ _ _ _ c.in-BeginEvent.is (sym c.is-record-readable.ensures ∙ c.if-not-is-record-readable.false) c.append-units.ensures
+returns-in-BeginEvent c = in_arm _ _ _ _ _ _ c.in-BeginEvent.is (sym c.is_record_readable.ensures ∙ c.if-not-is_record_readable.false) c.append_units.ensures
 
 pub returns-in-OMSetRenderTargets : goal.returns-in-OMSetRenderTargets
-returns-in-OMSetRenderTargets c = in_arm _ _ _ _ _ _ c.in-OMSetRenderTargets.is (sym c.is-record-readable.ensures ∙ c.if-not-is-record-readable.false) c.append-handles.ensures
+returns-in-OMSetRenderTargets c = in_arm _ _ _ _ _ _ c.in-OMSetRenderTargets.is (sym c.is_record_readable.ensures ∙ c.if-not-is_record_readable.false) c.append_handles.ensures
 
 pub returns-in-ResourceBarrier : goal.returns-in-ResourceBarrier
-returns-in-ResourceBarrier c = in_arm _ _ _ _ _ _ c.in-ResourceBarrier.is (sym c.is-record-readable.ensures ∙ c.if-not-is-record-readable.false) c.append-entries.ensures
+returns-in-ResourceBarrier c = in_arm _ _ _ _ _ _ c.in-ResourceBarrier.is (sym c.is_record_readable.ensures ∙ c.if-not-is_record_readable.false) c.append_entries.ensures
 
 pub returns-in-Fixed : goal.returns-in-Fixed
-returns-in-Fixed c = in_arm _ _ _ _ _ _ c.in-Fixed.is (sym c.is-record-readable.ensures ∙ c.if-not-is-record-readable.false) c.append-in-range.ensures
+returns-in-Fixed c = in_arm _ _ _ _ _ _ c.in-Fixed.is (sym c.is_record_readable.ensures ∙ c.if-not-is_record_readable.false) c.append_in_range.ensures

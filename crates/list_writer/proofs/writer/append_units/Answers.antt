@@ -7,10 +7,10 @@ use Rattle.list_writer.proofs.Readable.{readable_total}
 use Rattle.list_writer.proofs.Parts.{units_read, cut_total}
 use Rattle.list_writer.proofs.writer.append_units.Goals as goal
 
-pub append-row-requires : goal.append-row-requires
-append-row-requires c =
+pub append_row-requires : goal.append_row-requires
+append_row-requires c =
     let p = c.args.units.now in
     omega (arith, readable_total (BeginEvent (every 2 p)) c.requires, total_entries unit 2 (λ u. refl) (every 2 p), length_every 2 p, cut_total (2 * (length p / 2)) p (omega arith))
 
 pub returns : goal.returns
-returns c = units_read _ _ _ _ c.args.units.now _ (λ i. omega (arith, c.type-inv.units i)) refl c.append-row.ensures
+returns c = units_read _ _ _ _ c.args.units.now _ (λ i. omega (arith, c.type-inv.units i)) refl c.append_row.ensures

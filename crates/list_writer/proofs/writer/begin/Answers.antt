@@ -3,4 +3,4 @@ use Rattle.list_writer.proofs.Readable.{began}
 use Rattle.list_writer.proofs.writer.begin.Goals as goal
 
 pub returns : goal.returns
-returns c = began c.args.bytes.now (omega (arith, c.if-bytes-eq0.false)) c.if-bytes-gt-MOST-BYTES.false
+returns c = began c.args.bytes.now (omega (arith, c.if-bytes-eq0.false)) c.if-bytes-gt-MOST_BYTES.false

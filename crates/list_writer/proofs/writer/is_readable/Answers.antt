@@ -5,10 +5,10 @@ use Rattle.command_list.specs.Seen.{given_command}
 use Rattle.list_writer.proofs.Readable.{readable_event, readable_targets, readable_barriers}
 use Rattle.list_writer.proofs.writer.is_readable.Goals as goal
 
-pub returns-then-ends-with-zero : goal.returns-then-ends-with-zero
-returns-then-ends-with-zero c =
+pub returns-then-ends_with_zero : goal.returns-then-ends_with_zero
+returns-then-ends_with_zero c =
     let us = c.in-BeginEvent.units.now in
-    ap (λ t. t && leb (length us) 32767) (sym c.if-ends-with-zero.true ∙ c.ends-with-zero.ensures)
+    ap (λ t. t && leb (length us) 32767) (sym c.if-ends_with_zero.true ∙ c.ends_with_zero.ensures)
     ∙ readable_event us ∙ ap (λ x. readable (given_command x)) (sym c.in-BeginEvent.is)
 
 pub returns-in-OMSetRenderTargets : goal.returns-in-OMSetRenderTargets

@@ -6,12 +6,12 @@ use Rattle.resources.proofs.batch.check_usages.Goals as goal
 pub loop-i-preserved : goal.loop-i-preserved
 loop-i-preserved g c =
     passes g.U.Uses.usage in_range c.args.list.now c.loop-i.i c.index-list-i.result c.loop-i-test.true c.index-list-i.is
-    (sym c.in-range.ensures ∙ c.if-not-in-range.false) c.loop-i.invariant
+    (sym c.in_range.ensures ∙ c.if-not-in_range.false) c.loop-i.invariant
 
-pub returns-then-not-in-range : goal.returns-then-not-in-range
-returns-then-not-in-range g c =
+pub returns-then-not-in_range : goal.returns-then-not-in_range
+returns-then-not-in_range g c =
     ap (refused_at 1) (sym (fails g.U.Uses.usage in_range c.args.list.now c.loop-i.i c.index-list-i.result c.loop-i-test.true c.index-list-i.is
-    (sym c.in-range.ensures ∙ c.if-not-in-range.true) c.loop-i.invariant))
+    (sym c.in_range.ensures ∙ c.if-not-in_range.true) c.loop-i.invariant))
 
 pub returns : goal.returns
 returns g c = ap (refused_at 1) (sym (all_pass g.U.Uses.usage in_range c.args.list.now c.loop-i.i c.loop-i-test.false c.loop-i.invariant))

@@ -3,20 +3,20 @@ use Rattle.board.specs.Boards.{device_of}
 use Rattle.board.proofs.Spares.{Sized, sized, room_for_one, spares_made, board_taken}
 use Rattle.board.proofs.board.BoardRecorder.om_set_render_targets.Goals as goal
 
-pub count-code-requires : goal.count-code-requires
-count-code-requires c =
+pub count_code-requires : goal.count_code-requires
+count_code-requires c =
     let s = c.args.self.now in
-    let z = sized (OMSetRenderTargets c.args.targets.now) _ _ _ c.in-ok-size.ensures c.in-ok-bytes.ensures in
+    let z = sized (OMSetRenderTargets c.args.targets.now) _ _ _ c.in_ok-size.ensures c.in_ok-bytes.ensures in
     (room_for_one _ (device_of s.state) _ _ _ z s.spare s.small).0
 
 pub invariant-of-self : goal.invariant-of-self
 invariant-of-self c =
     let s = c.args.self.now in
-    let z = sized (OMSetRenderTargets c.args.targets.now) _ _ _ c.in-ok-size.ensures c.in-ok-bytes.ensures in
-    (s.small, (spares_made _ (device_of s.state) _ _ _ _ z c.count-code.ensures s.spare, tt))
+    let z = sized (OMSetRenderTargets c.args.targets.now) _ _ _ c.in_ok-size.ensures c.in_ok-bytes.ensures in
+    (s.small, (spares_made _ (device_of s.state) _ _ _ _ z c.count_code.ensures s.spare, tt))
 
 pub returns : goal.returns
 returns c =
     let s = c.args.self.now in
-    let z = sized (OMSetRenderTargets c.args.targets.now) _ _ _ c.in-ok-size.ensures c.in-ok-bytes.ensures in
-    board_taken _ s.state _ _ _ _ z c.count-code.ensures
+    let z = sized (OMSetRenderTargets c.args.targets.now) _ _ _ c.in_ok-size.ensures c.in_ok-bytes.ensures in
+    board_taken _ s.state _ _ _ _ z c.count_code.ensures

@@ -4,20 +4,20 @@ use Rattle.board.specs.Boards.{device_of}
 use Rattle.board.proofs.Spares.{Sized, sized, room_for_one, spares_made, board_taken}
 use Rattle.board.proofs.board.BoardRecorder.replay.Goals as goal
 
-pub step-record-requires : goal.step-record-requires
-step-record-requires c =
+pub step_record-requires : goal.step_record-requires
+step_record-requires c =
     let s = c.args.self.now in
-    let z = sized (command_of c.args.«record») _ _ _ c.in-ok-size-record.ensures c.in-ok-bytes.ensures in
+    let z = sized (command_of c.args.«record») _ _ _ c.in_ok-size_record.ensures c.in_ok-bytes.ensures in
     record { ranged = (and_parts _ _ z.readable).0; room = room_for_one _ (device_of s.state) _ _ _ z s.spare s.small }
 
 pub invariant-of-self : goal.invariant-of-self
 invariant-of-self c =
     let s = c.args.self.now in
-    let z = sized (command_of c.args.«record») _ _ _ c.in-ok-size-record.ensures c.in-ok-bytes.ensures in
-    (s.small, (spares_made _ (device_of s.state) _ _ _ _ z c.step-record.ensures s.spare, tt))
+    let z = sized (command_of c.args.«record») _ _ _ c.in_ok-size_record.ensures c.in_ok-bytes.ensures in
+    (s.small, (spares_made _ (device_of s.state) _ _ _ _ z c.step_record.ensures s.spare, tt))
 
 pub returns : goal.returns
 returns c =
     let s = c.args.self.now in
-    let z = sized (command_of c.args.«record») _ _ _ c.in-ok-size-record.ensures c.in-ok-bytes.ensures in
-    board_taken _ s.state _ _ _ _ z c.step-record.ensures
+    let z = sized (command_of c.args.«record») _ _ _ c.in_ok-size_record.ensures c.in_ok-bytes.ensures in
+    board_taken _ s.state _ _ _ _ z c.step_record.ensures

@@ -1,7 +1,7 @@
-use Rattle.std.proofs.Common.{◌≡◌, ◌≤◌, length, drop, sym, refl, ap, ◌∙◌, arith, length-drop}
+use Rattle.std.proofs.Common.{length, drop, sym, refl, ap, ◌∙◌, arith, length-drop}
 use Rattle.std.proofs.lemmas.List.{drop_all, take_rest}
-use Rattle.command_list.specs.Decoding.{front, ended}
-use Rattle.command_list.specs.Seen.{step_of, step_at, front_of, command_of}
+use Rattle.command_list.specs.Decoding.{front}
+use Rattle.command_list.specs.Seen.{step_of, step_at, front_of}
 use Rattle.command_list.proofs.Fronts.{front_none, front_within}
 use Rattle.command_list.proofs.reader.Reader.next.Goals as goal
 
@@ -12,8 +12,8 @@ returns-then-at-file c =
     let bs = c.args.self.now.file.now in
     record { same = refl; gives = ap (λ f. step_of f at) (sym (front_none (drop at bs) (ap length (drop_all at bs c.if-at-file.true)))) }
 
-pub overflow-add-self : goal.overflow-add-self
-overflow-add-self c =
+pub overflow_add-self : goal.overflow_add-self
+overflow_add-self c =
     let at = c.args.self.now.at in
     let bs = c.args.self.now.file.now in
     let w = front_within (drop at bs) _ _ (sym (ap front (take_rest bs at)) ∙ sym c.in-Ok.ensures ∙ ap front_of c.in-Some.is) in

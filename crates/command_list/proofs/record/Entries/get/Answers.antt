@@ -1,4 +1,4 @@
-use Rattle.std.proofs.Common.{◌≡◌, ◌/◌, length, sym, ◌∙◌, arith}
+use Rattle.std.proofs.Common.{◌/◌, length, sym, ◌∙◌, arith}
 use Rattle.std.proofs.lemmas.Bool.{cond-true, cond-false, lt-ltb, le-ltb}
 use Rattle.command_list.proofs.Runs.{nth_entry, past_entry}
 use Rattle.command_list.proofs.record.Entries.get.Goals as goal
@@ -7,8 +7,8 @@ pub returns-then-i-len : goal.returns-then-i-len
 returns-then-i-len c =
     let bs = c.args.self.now.bytes.now in
     record {
-      entry = c.read-entry.ensures ∙ sym (cond-true _ _ _ (lt-ltb c.args.i (length bs / 17) (omega (arith, c.if-i-len.true, c.len.ensures))));
-      listed = λ es e. c.read-entry.ensures ∙ nth_entry c.args.i bs es (omega (arith, c.if-i-len.true, c.len.ensures)) e;
+      entry = c.read_entry.ensures ∙ sym (cond-true _ _ _ (lt-ltb c.args.i (length bs / 17) (omega (arith, c.if-i-len.true, c.len.ensures))));
+      listed = λ es e. c.read_entry.ensures ∙ nth_entry c.args.i bs es (omega (arith, c.if-i-len.true, c.len.ensures)) e;
     }
 
 pub returns-else-i-len : goal.returns-else-i-len

@@ -1,15 +1,15 @@
-use Rattle.std.proofs.Common.{◌≡◌, Some, ap, ◌∙◌, arith}
+use Rattle.std.proofs.Common.{Some, ap, ◌∙◌, arith}
 use Rattle.command_list.proofs.Runs.{length_every, nth_every, past_every}
 use Rattle.command_list.proofs.record.Units.get.Goals as goal
 
-pub overflow-mul-i : goal.overflow-mul-i
-overflow-mul-i c = omega (arith, c.if-i-len.true, c.len.ensures, length_every 2 c.args.self.now.bytes.now)
+pub overflow_mul-i : goal.overflow_mul-i
+overflow_mul-i c = omega (arith, c.if-i-len.true, c.len.ensures, length_every 2 c.args.self.now.bytes.now)
 
-pub get-u16-requires : goal.get-u16-requires
-get-u16-requires c = omega (arith, c.if-i-len.true, c.len.ensures, length_every 2 c.args.self.now.bytes.now)
+pub get_u16-requires : goal.get_u16-requires
+get_u16-requires c = omega (arith, c.if-i-len.true, c.len.ensures, length_every 2 c.args.self.now.bytes.now)
 
 pub returns-then-i-len : goal.returns-then-i-len
-returns-then-i-len c = ap Some c.get-u16.ensures ∙ nth_every 2 _ c.args.self.now.bytes.now (omega (arith, c.if-i-len.true, c.len.ensures, length_every 2 c.args.self.now.bytes.now))
+returns-then-i-len c = ap Some c.get_u16.ensures ∙ nth_every 2 _ c.args.self.now.bytes.now (omega (arith, c.if-i-len.true, c.len.ensures, length_every 2 c.args.self.now.bytes.now))
 
 pub returns-else-i-len : goal.returns-else-i-len
 returns-else-i-len c = past_every 2 _ c.args.self.now.bytes.now (omega (arith, c.if-i-len.false, c.len.ensures, length_every 2 c.args.self.now.bytes.now))

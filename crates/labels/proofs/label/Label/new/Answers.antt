@@ -16,16 +16,16 @@ made c =
     (omega (arith, c.fill-n.array_long, c.fill-n.ensures.count, ap length t.0)) c.fill-n.ensures.front
     ∙ ap label_units t.0
 
-pub returns-in-default : goal.returns-in-default
-returns-in-default c =
-    let no : WellFormed c.args.bytes.now → ⊥ = λ w. c.in-default.ensures.cases.0 (formed_utf8 c.args.bytes.now w) in
-    inr ((refl, refl), c.if-bytes-gt-MOST-BYTES.false, no, λ t. no (formed t))
+pub returns-in_default : goal.returns-in_default
+returns-in_default c =
+    let no : WellFormed c.args.bytes.now → ⊥ = λ w. c.in_default.ensures.cases.0 (formed_utf8 c.args.bytes.now w) in
+    inr ((refl, refl), c.if-bytes-gt-MOST_BYTES.false, no, λ t. no (formed t))
 
 pub invariant-of-result : goal.invariant-of-result
 invariant-of-result c =
     let t = c.in-Ok.ensures.cases in
     let us = utf16s (chars c.args.bytes.now) in
-    let l : length us ≤ 256 = omega (arith, text_units_le c.args.bytes.now t.1, c.if-bytes-gt-MOST-BYTES.false) in
+    let l : length us ≤ 256 = omega (arith, text_units_le c.args.bytes.now t.1, c.if-bytes-gt-MOST_BYTES.false) in
     let w : c.fill-n.result + 1 ≤ 257 = omega (arith, c.fill-n.ensures.count, ap length t.0) in
     (w, (subst Recordable (sym (made c)) (recordable us l), tt))
 
@@ -35,7 +35,7 @@ returns c =
     let m = made (goal.at.returns c).After-fill-n in
     let w = utf8_formed c.args.bytes.now t.1 in
     record {
-      short = c.if-bytes-gt-MOST-BYTES.false;
+      short = c.if-bytes-gt-MOST_BYTES.false;
       formed = w;
       tabled = tabled c.args.bytes.now w;
       is = subst (IsLabel c.args.bytes.now) (sym m) (is_label c.args.bytes.now t.1);

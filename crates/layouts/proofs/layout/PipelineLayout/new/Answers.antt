@@ -3,7 +3,7 @@ use Rattle.layouts.proofs.layout.PipelineLayout.new.Goals as goal
 
 pub invariant-of-result : goal.invariant-of-result
 invariant-of-result c =
-    kept c.args.signature c.args.total c.args.special c.args.immediates c.in-ok-infos.infos
-    c.masks-tables.result.0 c.masks-tables.result.1 c.is-signed.result c.fits.result c.once.result
-    c.is-signed.ensures c.if-not-is-signed.false c.fits.ensures c.if-not-fits.false c.once.ensures c.if-not-once.false
+    kept c.args.signature c.args.total c.args.special c.args.immediates c.in_ok-infos.infos
+    c.masks-tables.result.0 c.masks-tables.result.1 c.is_signed.result c.fits.result c.once.result
+    c.is_signed.ensures c.if-not-is_signed.false c.fits.ensures c.if-not-fits.false c.once.ensures c.if-not-once.false
     c.masks-tables.ensures.tables c.masks-tables.ensures.uniforms

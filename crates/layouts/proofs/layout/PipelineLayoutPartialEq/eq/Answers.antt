@@ -4,6 +4,6 @@ use Rattle.layouts.proofs.layout.PipelineLayoutPartialEq.eq.Goals as goal
 
 pub returns : goal.returns
 returns c = (
-  (λ e. layouts_equal c.args.self.now c.args.other.now (omega arith) (omega arith) (c.if-not-equal-special.ensures.0 refl) (c.if-not-equal-immediates.ensures.0 refl) (c.equal-groups.ensures.0 e)),
-  (λ e. c.equal-groups.ensures.1 (ap (λ l. l.bind_group_infos) e)),
+  (λ e. layouts_equal c.args.self.now c.args.other.now (omega arith) (omega arith) (c.if-not-equal_special.ensures.0 refl) (c.if-not-equal_immediates.ensures.0 refl) (c.equal_groups.ensures.0 e)),
+  (λ e. c.equal_groups.ensures.1 (ap (λ l. l.bind_group_infos) e)),
 )

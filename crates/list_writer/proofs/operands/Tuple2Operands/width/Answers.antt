@@ -8,8 +8,8 @@ width-requires g c = omega (arith, c.requires, total_append (g.A.Operands.row c.
 pub width-requires-2 : goal.width-requires-2
 width-requires-2 g c = omega (arith, c.requires, total_append (g.A.Operands.row c.args.self.now.0) (g.B.Operands.row c.args.self.now.1))
 
-pub overflow-add-result : goal.overflow-add-result
-overflow-add-result g c = omega (arith, c.requires, c.width.ensures, c.width-2.ensures, total_append (g.A.Operands.row c.args.self.now.0) (g.B.Operands.row c.args.self.now.1))
+pub overflow_add-result : goal.overflow_add-result
+overflow_add-result g c = omega (arith, c.requires, c.width.ensures, c.width-2.ensures, total_append (g.A.Operands.row c.args.self.now.0) (g.B.Operands.row c.args.self.now.1))
 
 pub returns : goal.returns
 returns g c = omega (arith, c.width.ensures, c.width-2.ensures, total_append (g.A.Operands.row c.args.self.now.0) (g.B.Operands.row c.args.self.now.1))
