@@ -1,6 +1,6 @@
 // Goes through a list file record by record.
 ghost use Rattle.std.specs.Prelude.{◌≡◌, ℕ, ◌+◌, ◌^◌, ◌<◌, true, false, length, MatchResult};
-ghost use Rattle.command_list.specs.Decoding.{front as frontSaid};
+ghost use Rattle.command_list.specs.Decoding.{front as front_said};
 ghost use Rattle.command_list.specs.Files.{has_version};
 ghost use Rattle.command_list.specs.Seen.{IsFault, seen_front, seen_step, step_at};
 
@@ -14,7 +14,7 @@ pub const MOST_BYTES: usize = 65536;
 
 // The record at the front of what is left of a file, with the bytes that it takes; none at the end.
 fn front(left: &[u8]) -> Result<Option<(Record, usize)>, Number>
-    ensures { seen_front result ≡ frontSaid left.now }
+    ensures { seen_front result ≡ front_said left.now }
 {
     match left {
         [] => Ok(None),

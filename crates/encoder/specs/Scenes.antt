@@ -13,7 +13,7 @@ use Rattle.encoder.specs.Opening.{Opening, render_pass, compute_pass, half_of, l
 
 -- the calls, by their kinds
 pub data Call : Type 0 where
-  beginEncoding endEncoding discardEncoding : Call
+  begin_encoding end_encoding discard_encoding : Call
   opening : Opening → Call
   -- of a render pass or of a compute pass
   ending : Half → Call
@@ -74,25 +74,25 @@ same_half Compute Compute = true
 
 -- which calls each stage offers
 abbrev pub offers : Stage → Call → Bool
-offers idle beginEncoding = true
-offers idle endEncoding = false
-offers idle discardEncoding = false
+offers idle begin_encoding = true
+offers idle end_encoding = false
+offers idle discard_encoding = false
 offers idle (opening o) = false
 offers idle (ending h) = false
 offers idle (quiet q) = false
 offers idle (set c) = false
 offers idle (drawing c) = false
-offers recording beginEncoding = false
-offers recording endEncoding = true
-offers recording discardEncoding = true
+offers recording begin_encoding = false
+offers recording end_encoding = true
+offers recording discard_encoding = true
 offers recording (opening o) = true
 offers recording (ending h) = false
 offers recording (quiet q) = list_quiets q
 offers recording (set c) = false
 offers recording (drawing c) = false
-offers (in_pass a) beginEncoding = false
-offers (in_pass a) endEncoding = false
-offers (in_pass a) discardEncoding = true
+offers (in_pass a) begin_encoding = false
+offers (in_pass a) end_encoding = false
+offers (in_pass a) discard_encoding = true
 offers (in_pass a) (opening o) = false
 offers (in_pass a) (ending h) = same_half h a.half
 offers (in_pass a) (quiet q) = pass_quiets a.half q
@@ -101,9 +101,9 @@ offers (in_pass a) (drawing c) = pass_draws a.half c
 
 -- the stage after an accepted call
 abbrev pub next : Call → Stage → Stage
-next beginEncoding s = recording
-next endEncoding s = idle
-next discardEncoding s = idle
+next begin_encoding s = recording
+next end_encoding s = idle
+next discard_encoding s = idle
 next (opening o) s = in_pass (opened (half_of o) (is_labelled (label_of o)))
 next (ending h) s = recording
 next (quiet q) s = s
@@ -112,9 +112,9 @@ next (drawing c) s = in_pass (after_draw c (account_of s))
 
 -- the commands that an accepted call records
 abbrev pub records : ℕ → Call → Account → List Command
-records null beginEncoding a = []
-records null endEncoding a = []
-records null discardEncoding a = []
+records null begin_encoding a = []
+records null end_encoding a = []
+records null discard_encoding a = []
 records null (opening o) a = opening_records null o
 records null (ending h) a = ending_records a.labelled
 records null (quiet q) a = quiet_records q
@@ -123,9 +123,9 @@ records null (drawing c) a = draw_records c a
 
 -- the questions of a call but for the space: the first no
 abbrev pub asks : ℕ → Call → Account → Option Fault
-asks null beginEncoding a = None
-asks null endEncoding a = None
-asks null discardEncoding a = None
+asks null begin_encoding a = None
+asks null end_encoding a = None
+asks null discard_encoding a = None
 asks null (opening o) a = asks_opening null o
 asks null (ending h) a = None
 asks null (quiet q) a = asks_quiet q
@@ -138,9 +138,9 @@ anew m = record { device = start; space = m.made; made = m.made; shown = cleared
 
 -- what the recorder starts a call from: the beginning of a list starts it anew
 abbrev pub start_of : Call → Meaning → Meaning
-start_of beginEncoding m = anew m
-start_of endEncoding m = m
-start_of discardEncoding m = m
+start_of begin_encoding m = anew m
+start_of end_encoding m = m
+start_of discard_encoding m = m
 start_of (opening o) m = m
 start_of (ending h) m = m
 start_of (quiet q) m = m

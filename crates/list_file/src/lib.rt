@@ -1,6 +1,6 @@
 // Whole list files.
 ghost use Rattle.std.specs.Prelude.{◌≡◌, ◌≤◌, true, map, length, MatchResult};
-ghost use Rattle.command_list.specs.Files.{is_accepted, encoded, file as fileSaid};
+ghost use Rattle.command_list.specs.Files.{is_accepted, encoded, file as file_said};
 ghost use Rattle.command_list.specs.Seen.{given_command};
 ghost use Rattle.list_file.specs.Passing.{Checked, Rewritten, ListSize, ListWritten, Listed, all_readable, RecordsKnown};
 
@@ -23,7 +23,7 @@ pub fn check(file: &[u8]) -> Result<usize, Fault>
 
 // Writes the commands of an accepted file again, into as many bytes.
 fn rewrite_all(file: &[u8], out: &mut [u8]) -> Result<(), Fault>
-    requires takes { is_accepted (fileSaid file.now) ≡ true }
+    requires takes { is_accepted (file_said file.now) ≡ true }
     requires fits { length out.old ≡ length file.now }
     ensures { MatchResult result (λ _. out.new ≡ file.now) (λ _. ⊥) }
 {

@@ -1,7 +1,7 @@
 // Plays list files on recorders.
 ghost use Rattle.std.specs.Prelude.{◌≡◌, ◌+◌, ◌≤◌, true, List, length, MatchResult};
 ghost use Rattle.command_list.specs.Commands.{Command};
-ghost use Rattle.command_list.specs.Files.{accepted, is_accepted, file as fileSaid};
+ghost use Rattle.command_list.specs.Files.{accepted, is_accepted, file as file_said};
 ghost use Rattle.board.specs.Boards.{device_of};
 ghost use Rattle.device.specs.Meaning.{Recorded};
 ghost use Rattle.list_bytes.specs.Listed.{listed};
@@ -16,9 +16,9 @@ use list_file::check;
 
 // Plays an accepted file, which is known to fit.
 fn play_all<R: Recorder>(recorder: &mut R, file: &[u8]) -> Result<(), Fault>
-    requires takes { is_accepted (fileSaid file.now) ≡ true }
+    requires takes { is_accepted (file_said file.now) ≡ true }
     requires fits { length file.now ≤ (R.Recorder.meaning recorder.old).space + 1 }
-    ensures { MatchResult result (λ _. (cs : List Command) × (fileSaid file.now ≡ accepted cs) × Recorded (R.Recorder.meaning recorder.old) cs (R.Recorder.meaning recorder.new)) (λ _. ⊥) }
+    ensures { MatchResult result (λ _. (cs : List Command) × (file_said file.now ≡ accepted cs) × Recorded (R.Recorder.meaning recorder.old) cs (R.Recorder.meaning recorder.new)) (λ _. ⊥) }
 {
     let mut reader = Reader::open(file)?;
     while let Some(record) = reader.next()? {
@@ -42,7 +42,7 @@ pub fn play<R: Recorder>(recorder: &mut R, file: &[u8]) -> Result<usize, Fault>
 
 // A board on which nothing but a list file was played. Its state is what the file's bytes mean.
 pub fn board_of(file: &[u8]) -> Result<Board, Fault>
-    ensures { MatchResult result (λ b. (is_accepted (fileSaid file.now) ≡ true) × (device_of b.state ≡ (listed file.now (length file.now)).device)) (λ f. Stops (fileSaid file.now) f) }
+    ensures { MatchResult result (λ b. (is_accepted (file_said file.now) ≡ true) × (device_of b.state ≡ (listed file.now (length file.now)).device)) (λ f. Stops (file_said file.now) f) }
 {
     let mut board = Board::new(file.len());
     let _ = play(&mut board, file)?;

@@ -2,7 +2,7 @@
 ghost use Rattle.std.specs.Prelude.{◌≡◌, ℕ, ◌<◌, true, length};
 ghost use Rattle.command_list.specs.declared.code.Code.TheVariants as code;
 ghost use Rattle.command_list.specs.Numbers.{total};
-ghost use Rattle.command_list.specs.Commands.{size as commandSize, BeginEvent, OMSetRenderTargets, ResourceBarrier, of_half, kind_byte, special_byte, ends_with_zero, in_range, readable, code_of, fields};
+ghost use Rattle.command_list.specs.Commands.{size as command_size, BeginEvent, OMSetRenderTargets, ResourceBarrier, of_half, kind_byte, special_byte, ends_with_zero, in_range, readable, code_of, fields};
 ghost use Rattle.command_list.specs.Seen.{fixed_command, given_command, command_of, every, entries_of};
 ghost use Rattle.list_writer.specs.Writing.{Appended, Begun, Measured, Written};
 
@@ -231,7 +231,7 @@ fn is_readable(command: Command) -> bool
 
 // How long the record of a command of a fixed width is.
 fn record_size(fixed: Fixed) -> usize
-    ensures { result ≡ commandSize (fixed_command fixed) }
+    ensures { result ≡ command_size (fixed_command fixed) }
 {
     match fixed {
         Fixed::EndEvent => 3,

@@ -13,7 +13,7 @@ use Rattle.passes.specs.Account.{Account, own_slot}
 use Rattle.passes.specs.Calls.{SetCall, set_bind_group, set_immediates, set_render_pipeline, set_compute_pipeline, set_vertex_buffer, addresses, set_roots, set_pipeline, set_records, asks_set, DrawCall, draw, draw_indirect, dispatch, dispatch_indirect, own_constants, prepared, wiped_slot, after_draw, own_command, draw_records, asks_draw}
 use Rattle.passes.specs.Flush.{flushed}
 use Rattle.encoder.specs.Opening.{half_of, is_labelled, label_of, quiet_records}
-use Rattle.encoder.specs.Scenes.{Call, beginEncoding, endEncoding, discardEncoding, opening, ending, quiet, set, drawing, Stage, idle, recording, in_pass, account_of, pass_draws, offers, next, records, asks, start_of}
+use Rattle.encoder.specs.Scenes.{Call, begin_encoding, end_encoding, discard_encoding, opening, ending, quiet, set, drawing, Stage, idle, recording, in_pass, account_of, pass_draws, offers, next, records, asks, start_of}
 use Rattle.runs.specs.Marks.{Moment, is_opening, is_mark, touches, touches_vertex}
 use Rattle.runs.proofs.Quiets.{Still, quiet_played, quiet_quiet}
 use Rattle.runs.proofs.Flushes.{flush_played}
@@ -100,9 +100,9 @@ Sound ever (in_pass a) d = Agree a.half a.pipeline a.roots d × Viewed ever a.ve
 
 pub sound_taken : (null : ℕ) (c : Call) (s : Stage) (m : Meaning) (ever ever' : List Moment) → Sound ever s m.device → offers s c ≡ true → asks null c (account_of s) ≡ None
     → Extends touches_vertex ever ever' (touches_vertex c (account_of s)) → Sound (cond (is_opening c) [] ever') (next c s) (play (records null c (account_of s)) (start_of c m).device)
-sound_taken null beginEncoding s m ever ever' g o q x = tt
-sound_taken null endEncoding s m ever ever' g o q x = tt
-sound_taken null discardEncoding s m ever ever' g o q x = tt
+sound_taken null begin_encoding s m ever ever' g o q x = tt
+sound_taken null end_encoding s m ever ever' g o q x = tt
+sound_taken null discard_encoding s m ever ever' g o q x = tt
 sound_taken null (opening p) s m ever ever' g o q x = (agree_opened (half_of p) (is_labelled (label_of p)) _, viewed_none _ _ (λ i. refl))
 sound_taken null (ending h) s m ever ever' g o q x = tt
 sound_taken null (quiet c) idle m ever ever' g o q x = tt
@@ -158,9 +158,9 @@ pub since_taken : (e : Device) (null : ℕ) (c : Call) (s : Stage) (m : Meaning)
     → offers s c ≡ true → asks null c (account_of s) ≡ None → is_mark c ≡ false
     → Extends touches since since' (touches c (account_of s)) → Extends touches_vertex since since' (touches_vertex c (account_of s))
     → Since e since' (next c s) (play (records null c (account_of s)) (start_of c m).device)
-since_taken e null beginEncoding s m ever since since' g h o q n x y = tt
-since_taken e null endEncoding s m ever since since' g h o q n x y = tt
-since_taken e null discardEncoding s m ever since since' g h o q n x y = tt
+since_taken e null begin_encoding s m ever since since' g h o q n x y = tt
+since_taken e null end_encoding s m ever since since' g h o q n x y = tt
+since_taken e null discard_encoding s m ever since since' g h o q n x y = tt
 since_taken e null (opening p) s m ever since since' g h o q n x y = absurd (true≢false n)
 since_taken e null (ending p) s m ever since since' g h o q n x y = tt
 since_taken e null (quiet c) idle m ever since since' g h o q n x y = tt

@@ -6,7 +6,7 @@ use Rattle.device.specs.Devices.{Device, Roots, step, play}
 use Rattle.passes.specs.Account.{Account}
 use Rattle.passes.specs.Calls.{DrawCall, own_constants, prepared, own_command, draw_records, asks_draw, draw_touches}
 use Rattle.encoder.specs.Opening.{opening_records}
-use Rattle.encoder.specs.Scenes.{Call, beginEncoding, endEncoding, discardEncoding, opening, ending, quiet, set, drawing, Stage, idle, recording, in_pass, account_of, pass_draws, offers, records, asks, start_of, taken, refused, is_taken, Scene, Does}
+use Rattle.encoder.specs.Scenes.{Call, begin_encoding, end_encoding, discard_encoding, opening, ending, quiet, set, drawing, Stage, idle, recording, in_pass, account_of, pass_draws, offers, records, asks, start_of, taken, refused, is_taken, Scene, Does}
 use Rattle.encoder.proofs.Answered.{taken_is, Took, took}
 use Rattle.runs.specs.Marks.{Moment, Run, device_before, device_after, account_at, is_opening, is_mark, Mark, NoMark, but_last, found_by, found, touches, touches_vertex, since_opening, other, Stands, EveryRunKeeps}
 use Rattle.runs.proofs.Quiets.{quiet_played, opening_quiet}
@@ -122,9 +122,9 @@ draw_found null c a d = ap (λ z. play z d) (but_last_one (flush_of c a) (own_co
 -- an accepted mark finds a device, and from then on the account is followed
 mark_found : (c : Call) (s t : Scene) → Took s c t → is_mark c ≡ true
     → Since (found_by c (records s.null c (account_of s.stage)) s.meaning.device) [] t.stage t.meaning.device
-mark_found beginEncoding s t w k = absurd (false≢true k)
-mark_found endEncoding s t w k = absurd (false≢true k)
-mark_found discardEncoding s t w k = absurd (false≢true k)
+mark_found begin_encoding s t w k = absurd (false≢true k)
+mark_found end_encoding s t w k = absurd (false≢true k)
+mark_found discard_encoding s t w k = absurd (false≢true k)
 mark_found (opening o) s t w k =
     let d = s.meaning.device in
     at_scene (Since d []) t _ _ w.stage w.device

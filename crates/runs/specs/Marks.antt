@@ -9,7 +9,7 @@ use Rattle.layouts.specs.declared.layout.PipelineLayout.{PipelineLayout}
 use Rattle.passes.specs.Account.{Bound, Pipeline, Account}
 use Rattle.passes.specs.Flush.{nothing, value_at, Holds}
 use Rattle.passes.specs.Calls.{DrawCall, prepared, own_constants, wiped_slot, own_command, set_touches, set_touches_vertex, draw_touches}
-use Rattle.encoder.specs.Scenes.{Call, beginEncoding, endEncoding, discardEncoding, opening, ending, quiet, set, drawing, Stage, idle, account_of, records, Answer, taken, is_taken, Scene, Does}
+use Rattle.encoder.specs.Scenes.{Call, begin_encoding, end_encoding, discard_encoding, opening, ending, quiet, set, drawing, Stage, idle, account_of, records, Answer, taken, is_taken, Scene, Does}
 
 -- one call of a run: what it was offered to, its answer, and what it left
 pub record Moment : Type 0 where
@@ -34,9 +34,9 @@ abbrev pub account_at : Moment → Account
 account_at m = account_of m.before.stage
 
 abbrev pub is_opening : Call → Bool
-is_opening beginEncoding = false
-is_opening endEncoding = false
-is_opening discardEncoding = false
+is_opening begin_encoding = false
+is_opening end_encoding = false
+is_opening discard_encoding = false
 is_opening (opening o) = true
 is_opening (ending h) = false
 is_opening (quiet q) = false
@@ -45,9 +45,9 @@ is_opening (drawing c) = false
 
 -- the marks of a pass are its opening and each accepted draw or dispatch
 abbrev pub is_mark : Call → Bool
-is_mark beginEncoding = false
-is_mark endEncoding = false
-is_mark discardEncoding = false
+is_mark begin_encoding = false
+is_mark end_encoding = false
+is_mark discard_encoding = false
 is_mark (opening o) = true
 is_mark (ending h) = false
 is_mark (quiet q) = false
@@ -71,9 +71,9 @@ but_last (c ∷ d ∷ cs) = c ∷ but_last (d ∷ cs)
 
 -- what a mark finds: an opening the device before its first record, a draw the device just before its own record, which is its last
 abbrev pub found_by : Call → List Command → Device → Device
-found_by beginEncoding cs d = d
-found_by endEncoding cs d = d
-found_by discardEncoding cs d = d
+found_by begin_encoding cs d = d
+found_by end_encoding cs d = d
+found_by discard_encoding cs d = d
 found_by (opening o) cs d = d
 found_by (ending h) cs d = d
 found_by (quiet q) cs d = d
@@ -85,9 +85,9 @@ found m = found_by m.call (records m.before.null m.call (account_at m)) (device_
 
 -- the root slots that a call touches
 abbrev pub touches : Call → Account → ℕ → Bool
-touches beginEncoding a k = false
-touches endEncoding a k = false
-touches discardEncoding a k = false
+touches begin_encoding a k = false
+touches end_encoding a k = false
+touches discard_encoding a k = false
 touches (opening o) a k = false
 touches (ending h) a k = false
 touches (quiet q) a k = false
@@ -96,9 +96,9 @@ touches (drawing c) a k = draw_touches c a.roots k
 
 -- the vertex slots that a call touches
 abbrev pub touches_vertex : Call → Account → ℕ → Bool
-touches_vertex beginEncoding a i = false
-touches_vertex endEncoding a i = false
-touches_vertex discardEncoding a i = false
+touches_vertex begin_encoding a i = false
+touches_vertex end_encoding a i = false
+touches_vertex discard_encoding a i = false
 touches_vertex (opening o) a i = false
 touches_vertex (ending h) a i = false
 touches_vertex (quiet q) a i = false
