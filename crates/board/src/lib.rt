@@ -1,4 +1,6 @@
 // A recorder that keeps the device's state itself.
+#![tactic(auto)]
+
 pub mod board;
 mod changes;
 pub mod state;

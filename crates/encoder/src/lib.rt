@@ -1,2 +1,4 @@
 // The encoder.
+#![tactic(auto)]
+
 pub mod attachment;

@@ -1,4 +1,6 @@
 // Layouts: what a pipeline expects at its root slots.
+#![tactic(auto)]
+
 mod checks;
 mod equal;
 pub mod info;

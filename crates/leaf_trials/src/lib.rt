@@ -1,4 +1,6 @@
 // Tests of layouts, labels, usages, barriers and bindings at the edges of their ranges.
+#![tactic(auto)]
+
 #[cfg(test)]
 mod edges;
 #[cfg(test)]

@@ -1,4 +1,6 @@
 // A recorder that writes its commands into the caller's bytes.
+#![tactic(auto)]
+
 ghost use Rattle.std.specs.Prelude.{◌≡◌, ℕ, ◌<◌, ◌≤◌, ◌&&◌, length, take, MatchResult, nat_le, nat_lt};
 ghost use Rattle.command_list.specs.Seen.{IsFault, command_of, fixed_command, given_command};
 ghost use Rattle.list_bytes.specs.Listed.{is_whole, listed, Opened, Added};

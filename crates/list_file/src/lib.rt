@@ -1,4 +1,6 @@
 // Whole list files.
+#![tactic(auto)]
+
 ghost use Rattle.std.specs.Prelude.{◌≡◌, ◌≤◌, true, map, length, MatchResult};
 ghost use Rattle.command_list.specs.Files.{is_accepted, encoded, file as file_said};
 ghost use Rattle.command_list.specs.Seen.{given_command};

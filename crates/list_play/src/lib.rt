@@ -1,4 +1,6 @@
 // Plays list files on recorders.
+#![tactic(auto)]
+
 ghost use Rattle.std.specs.Prelude.{◌≡◌, ◌+◌, ◌≤◌, true, List, length, MatchResult};
 ghost use Rattle.command_list.specs.Commands.{Command};
 ghost use Rattle.command_list.specs.Files.{accepted, is_accepted, file as file_said};

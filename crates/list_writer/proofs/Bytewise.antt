@@ -1,13 +1,12 @@
 -- Bytes to numbers and back.
-use Rattle.std.proofs.Common.{◌≡◌, ℕ, zero, suc, ◌+◌, ◌-◌, ◌*◌, ◌/◌, ◌%◌, ◌^◌, ◌<◌, ◌≤◌, List, [], ◌∷◌, ◌++◌, length, get_or, take, drop, sym, refl, ap, ◌∙◌, subst, ap₂, ⊎_elim, add-zero, mul-le-mul_right, mod-eq_of_lt, mul_assoc, add-mul, zero-add, zero-mul, arith, length-append, take-add}
+use Rattle.std.proofs.Common.{◌≡◌, ℕ, zero, suc, ◌+◌, ◌*◌, ◌/◌, ◌%◌, ◌^◌, ◌<◌, ◌≤◌, List, [], ◌∷◌, ◌++◌, length, get_or, take, drop, sym, refl, ap, ◌∙◌, subst, ap₂, ⊎_elim, mul-le-mul_right, mod-eq_of_lt, mul_assoc, add-mul, zero-mul, arith, take-add}
 use native.Mathlib.Nat.{mod-one, pow-succ', mul-add-div_right, div-eq_of_lt}
 use lib.Arith.{mod-mul}
 use Rattle.std.specs.Int.Digits.{number_from_digits, number_from_digits_after}
 use Rattle.std.proofs.lemmas.Bool.{cases_lt}
-use Rattle.std.proofs.lemmas.List.{drop_at, take_at, take_all, drop-drop, take-append-drop, length-take-le, drop_more, get_or-drop, get_or-take, get_or_past, length-drop, length-take}
-use Rattle.command_list.specs.Numbers.{be, Field, field, bytes, total, Fit, widths, values, number_at, numbers}
-use Rattle.command_list.specs.Decoding.{sum}
-use Rattle.list_writer.proofs.Rows.{length_be, length_bytes}
+use Rattle.std.proofs.lemmas.List.{drop_at, take_at, drop-drop, length-take-le, get_or-drop, get_or-take, get_or_past, length-drop, length-take}
+use Rattle.command_list.specs.Numbers.{be, Field, bytes, total, Fit, widths, values, number_at, numbers}
+use Rattle.list_writer.proofs.Rows.{length_be}
 use Rattle.command_list.proofs.Runs.{numbers_shift}
 
 some_power : (w : ℕ) → 0 < 256 ^ w

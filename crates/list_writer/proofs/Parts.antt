@@ -1,20 +1,19 @@
 -- Operands laid down as the bytes that they were read from.
-use Rattle.std.proofs.Common.{◌≡◌, ℕ, zero, suc, ◌+◌, ◌-◌, ◌*◌, ◌/◌, ◌%◌, ◌^◌, ◌<◌, ◌≤◌, Bool, true, false, ◌&&◌, eqb, ltb, leb, ◌⊎◌, List, [], ◌∷◌, ◌++◌, length, get_or, take, drop, is_some, Some, None, Ok, Err, Option, Result, unwrap_or, sym, refl, ap, ◌∙◌, subst, ap₂, ⊎_elim, arith}
-use native.Mathlib.Nat.{mul-div_right, mul-mod_right}
+use Rattle.std.proofs.Common.{◌≡◌, ℕ, suc, ◌+◌, ◌-◌, ◌*◌, ◌/◌, ◌^◌, ◌<◌, ◌≤◌, true, false, ◌&&◌, eqb, ◌⊎◌, List, [], ◌∷◌, ◌++◌, length, get_or, take, drop, is_some, Some, None, Ok, Err, Option, Result, unwrap_or, sym, refl, ap, ◌∙◌, subst, ap₂, ⊎_elim, arith}
 use Rattle.std.specs.List.{slice_get, flat_map}
 use Rattle.std.specs.Int.Digits.{number_from_digits}
-use Rattle.std.proofs.lemmas.List.{length-take-le, length-drop, drop-take, take-take}
+use Rattle.std.proofs.lemmas.List.{length-take-le, length-drop}
 use Rattle.std.proofs.lemmas.Bool.{lt-ltb, le-ltb, le-leb, lt-leb, and_from, and_left, and_right, false≢true}
 use Rattle.std.proofs.lemmas.Option.{slice_get-get_or}
 use Rattle.command_list.specs.declared.code.Code.{Code}
 use Rattle.command_list.specs.declared.code.Code.TheVariants as code
 use Rattle.command_list.specs.declared.command.Barrier.{Barrier}
 use Rattle.command_list.specs.declared.fault.Fault.{Fault}
-use Rattle.command_list.specs.Numbers.{be, Field, field, bytes, total, Fit, widths, values, number_at, numbers}
-use Rattle.command_list.specs.Commands.{BeginEvent, OMSetRenderTargets, ResourceBarrier, byte_of, fields, framed, unit, handle, entry, ends_with_zero, readable}
-use Rattle.command_list.specs.Decoding.{repeated, sum, barriers}
+use Rattle.command_list.specs.Numbers.{Field, field, bytes, total, Fit, widths, values, number_at, numbers}
+use Rattle.command_list.specs.Commands.{BeginEvent, OMSetRenderTargets, ResourceBarrier, byte_of, fields, unit, handle, entry, ends_with_zero, readable}
+use Rattle.command_list.specs.Decoding.{repeated, barriers}
 use Rattle.command_list.specs.Seen.{every, entry_numbers, entries_of}
-use Rattle.list_writer.specs.Writing.{Grew, Lacks, Appended, room}
+use Rattle.list_writer.specs.Writing.{Appended, room}
 use Rattle.list_writer.proofs.Rows.{length_bytes, bytes_append, fit_append, total_entries}
 use Rattle.command_list.proofs.Runs.{some_same, none_some, cut, length_every, count_barriers}
 use Rattle.list_writer.proofs.Bytewise.{Bytes, bytes_take, bytes_drop, bytes_numbers, number_small}

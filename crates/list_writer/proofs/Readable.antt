@@ -1,18 +1,18 @@
 -- What has a record that the reader takes, and what writing one leaves.
-use Rattle.std.proofs.Common.{◌≡◌, ℕ, zero, suc, ◌+◌, ◌-◌, ◌*◌, ◌<◌, ◌≤◌, min, Bool, true, false, ◌&&◌, eqb, ltb, leb, ◌⊎◌, List, [], ◌∷◌, ◌++◌, length, get_or, take, drop, set, Ok, Err, Result, sym, refl, ap, ◌∙◌, subst, ap₂, ⊎_elim, append_assoc, arith, length-append}
+use Rattle.std.proofs.Common.{◌≡◌, ℕ, suc, ◌+◌, ◌-◌, ◌<◌, ◌≤◌, Bool, true, false, ◌&&◌, eqb, ltb, leb, List, [], ◌∷◌, ◌++◌, length, get_or, take, drop, set, Ok, Err, Result, sym, refl, ap, ◌∙◌, ⊎_elim, append_assoc, arith, length-append}
 use Rattle.std.specs.List.{flat_map}
 use Rattle.std.proofs.lemmas.List.{take_at, length-take-le}
-use Rattle.std.proofs.lemmas.Bool.{lt-ltb, le-ltb, le-leb, ltb-true, leb-true, and_from, and_parts, cases_Bool, cases_lt, and_left, and_right, lt-leb}
+use Rattle.std.proofs.lemmas.Bool.{lt-ltb, le-ltb, le-leb, ltb-true, and_from, and_parts, cases_lt, and_left, lt-leb}
 use Rattle.command_list.specs.declared.fault.Fault.{Fault}
 use Rattle.command_list.specs.declared.command.Barrier.{Barrier}
 use Rattle.command_list.specs.declared.command.Fixed.{Fixed}
 use Rattle.command_list.specs.declared.command.Fixed.TheVariants as fixed
 use Rattle.command_list.specs.Numbers.{total}
-use Rattle.command_list.specs.Commands.{Command, BeginEvent, OMSetRenderTargets, ResourceBarrier, code_of, fields, framed, record_of, size, unit, handle, entry, ends_with_zero, in_range, readable}
-use Rattle.command_list.specs.Files.{file, records, accepted, has_version}
+use Rattle.command_list.specs.Commands.{Command, BeginEvent, OMSetRenderTargets, ResourceBarrier, code_of, fields, framed, record_of, unit, handle, entry, ends_with_zero, in_range, readable}
+use Rattle.command_list.specs.Files.{file, records}
 use Rattle.command_list.specs.Decoding.{front}
 use Rattle.command_list.specs.Seen.{fixed_command}
-use Rattle.list_writer.specs.Writing.{Grew, Lacks, Appended, Wrote, Unwritten, Written, Began, room}
+use Rattle.list_writer.specs.Writing.{Grew, Appended, Wrote, Written, Began}
 use Rattle.list_writer.proofs.Rows.{length_bytes, total_entries}
 use Rattle.list_writer.proofs.Whole.{file_more}
 

@@ -3,7 +3,7 @@ use Rattle.std.proofs.Common.{◌≡◌, ℕ, zero, suc, ◌+◌, ◌-◌, ◌*�
 use borrow.Rule.Slice.PartMut.{put_mid}
 use Rattle.std.specs.List.{flat_map}
 use Rattle.std.proofs.lemmas.List.{flat_map_more, take_more, drop_all, take_all, drop_at, drop-drop, take_rest, take_at}
-use Rattle.command_list.specs.Numbers.{be, Field, field, bytes, total, Fit}
+use Rattle.command_list.specs.Numbers.{be, Field, bytes, total, Fit}
 use Rattle.list_writer.specs.Writing.{Laid}
 
 pub length_be : (w v : ℕ) → length (be w v) ≡ w

@@ -1,5 +1,5 @@
 -- A command's record reads back as the command, and a record that is read is its command's own.
-use Rattle.std.proofs.Common.{◌≡◌, ℕ, zero, suc, ◌+◌, ◌-◌, ◌*◌, ◌/◌, ◌%◌, ◌^◌, ◌<◌, ◌≤◌, Bool, true, false, cond, ◌&&◌, eqb, ltb, leb, ◌⊎◌, List, [], ◌∷◌, ◌++◌, length, get_or, take, drop, Some, None, Option, sym, refl, ap, ◌∙◌, subst, ap₂, inl, inr, ⊎_elim, add_assoc, suc-mul, mul-pos, div-add-mod', zero-add, zero-mul, arith}
+use Rattle.std.proofs.Common.{◌≡◌, ℕ, zero, suc, ◌+◌, ◌*◌, ◌/◌, ◌%◌, ◌<◌, ◌≤◌, Bool, true, false, cond, ◌&&◌, eqb, ltb, ◌⊎◌, List, [], ◌∷◌, ◌++◌, length, get_or, Some, None, Option, sym, refl, ap, ◌∙◌, subst, ap₂, inl, inr, ⊎_elim, mul-pos, div-add-mod', arith}
 use native.Mathlib.Nat.{mul-mod_right, mul-div_right}
 use Rattle.std.specs.List.{flat_map}
 use Rattle.std.proofs.lemmas.Nat.{div-mul-add}
@@ -12,9 +12,9 @@ use Rattle.command_list.specs.declared.command.BarrierType.TheVariants.{Transiti
 use Rattle.command_list.specs.declared.command.Barrier.{Barrier}
 use Rattle.command_list.specs.declared.code.Code.{Code}
 use Rattle.command_list.specs.declared.code.Code.TheVariants as code
-use Rattle.command_list.specs.Numbers.{be, Field, field, bytes, total, Fit, widths, values, number_at, numbers}
+use Rattle.command_list.specs.Numbers.{Field, bytes, total, Fit, widths, values, number_at, numbers}
 use Rattle.command_list.specs.Commands.{Command, code_of, fields, unit, handle, entry, in_range, ends_with_zero, type_byte, flag_byte, kind_byte, special_byte, BeginEvent, EndEvent, SetDescriptorHeaps, SetRootSignature, SetPipelineState, IASetPrimitiveTopology, IASetVertexBuffers, SetRoot32BitConstant, SetRootDescriptorTable, SetRootConstantBufferView, OMSetRenderTargets, ClearRenderTargetView, RSSetViewports, RSSetScissorRects, ResourceBarrier, DrawInstanced, Dispatch, ExecuteIndirect}
-use Rattle.command_list.specs.Decoding.{Shape, shape, sum, length_right, repeated, widths_of, flag_of, kind_of, special_of, type_of, then, barriers, named, Decoded, takes, wrong, checked, decode}
+use Rattle.command_list.specs.Decoding.{shape, sum, length_right, repeated, widths_of, flag_of, kind_of, special_of, type_of, then, barriers, named, takes, wrong, checked, decode}
 use Rattle.command_list.proofs.Places.{number_1}
 use Rattle.list_writer.proofs.Rows.{length_bytes, total_entries}
 use Rattle.command_list.proofs.Runs.{none_some, some_same, then_is, length_numbers, length_repeated, count_barriers, sum_repeated}

@@ -1,19 +1,19 @@
 -- Whole files: one record more reads back, and a file that is read is its commands' own.
-use Rattle.std.proofs.Common.{◌≡◌, ℕ, zero, suc, ◌+◌, ◌-◌, ◌*◌, ◌/◌, ◌%◌, ◌^◌, ◌<◌, ◌≤◌, Bool, true, false, cond, ◌&&◌, ◌||◌, eqb, ltb, leb, ◌⊎◌, List, [], ◌∷◌, ◌++◌, length, get_or, take, drop, Some, None, Option, sym, refl, ap, ◌∙◌, subst, ap₂, inl, inr, ⊎_elim, append_assoc, append-nil, arith, length-append}
+use Rattle.std.proofs.Common.{◌≡◌, ℕ, zero, suc, ◌+◌, ◌-◌, ◌*◌, ◌/◌, ◌%◌, ◌<◌, ◌≤◌, Bool, true, false, ◌||◌, eqb, ltb, List, [], ◌∷◌, ◌++◌, length, get_or, take, drop, Some, None, Option, sym, refl, ap, ◌∙◌, ap₂, ⊎_elim, append-nil, arith, length-append}
 use Rattle.std.specs.List.{flat_map}
-use Rattle.std.proofs.lemmas.List.{take_at, drop_at, take-append-le, drop-append-le, take-append-drop, take_all, length-drop, length-take-le, drop_all, get_or_append_left}
-use Rattle.std.proofs.lemmas.Bool.{cond-true, cond-false, eq-eqb, eqb-true, leb-true, le-leb, lt-ltb, ltb-true, and_from, and_parts, cases_Bool, or_parts, eqb-false, ltb-false, false≢true}
+use Rattle.std.proofs.lemmas.List.{take_at, take-append-le, drop-append-le, take-append-drop, length-drop, length-take-le, drop_all, get_or_append_left}
+use Rattle.std.proofs.lemmas.Bool.{cond-true, cond-false, eqb-true, le-leb, lt-ltb, and_from, and_parts, cases_Bool, or_parts, eqb-false, ltb-false, false≢true}
 use Rattle.command_list.specs.declared.code.Code.{Code}
 use Rattle.command_list.specs.declared.code.Code.TheVariants as code
-use Rattle.command_list.specs.Numbers.{be, Field, field, bytes, total, Fit}
+use Rattle.command_list.specs.Numbers.{bytes, total, Fit}
 use Rattle.command_list.specs.Commands.{Command, code_of, byte_of, fields, framed, record_of, size, in_range, readable}
 use Rattle.command_list.specs.Decoding.{codes, among, code_named, Decoded, takes, wrong, decode, decode_named, Front, ended, first, broken, sized, front}
 use Rattle.command_list.specs.Files.{Verdict, accepted, refused, after, followed, records, has_version, file, encoded}
 use Rattle.list_writer.proofs.Rows.{length_bytes}
-use Rattle.list_writer.proofs.Bytewise.{number_fit, be_number, Bytes, bytes_drop, bytes_take}
-use Rattle.command_list.proofs.Fronts.{said, front_none, front_whole, front_within}
+use Rattle.list_writer.proofs.Bytewise.{number_fit, Bytes, bytes_drop, bytes_take}
+use Rattle.command_list.proofs.Fronts.{said, front_whole, front_within}
 use Rattle.command_list.proofs.Runs.{none_some, some_same}
-use Rattle.list_writer.proofs.Trips.{decoded, decode_back, decode_is, Backs}
+use Rattle.list_writer.proofs.Trips.{decoded, decode_back, decode_is}
 
 -- a code's byte names it, and no other byte does
 named_byte : (k : Code) → code_named (byte_of k) ≡ Some k

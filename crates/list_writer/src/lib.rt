@@ -1,3 +1,5 @@
 // Writes commands and records into the unused end of the caller's bytes.
+#![tactic(auto)]
+
 mod operands;
 pub mod writer;

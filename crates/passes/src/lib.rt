@@ -1,2 +1,4 @@
 // The record of a pass, and what each call makes of it.
+#![tactic(auto)]
+
 pub mod element;

@@ -1,4 +1,6 @@
 // What transitions stand on: usages, the states that they come to, barriers, and the scratch that holds them.
+#![tactic(auto)]
+
 pub mod barrier;
 pub mod batch;
 pub mod conv;

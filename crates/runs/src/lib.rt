@@ -1,2 +1,4 @@
 // Whole runs of an encoder.
+#![tactic(auto)]
+
 pub mod laws;

@@ -1,4 +1,6 @@
 // The season plot that the program and its tests carry: one small frame of three draws.
+#![tactic(auto)]
+
 ghost use Rattle.std.specs.Prelude.{◌≡◌, map, Some, MatchResult};
 ghost use Rattle.command_list.specs.declared.command.Half.TheVariants.{Graphics};
 ghost use Rattle.command_list.specs.Commands.{SetRoot32BitConstant, DrawInstanced};

@@ -1,4 +1,6 @@
 // Tests of many cases.
+#![tactic(auto)]
+
 #[cfg(test)]
 mod damaged;
 #[cfg(test)]

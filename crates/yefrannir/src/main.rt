@@ -1,4 +1,6 @@
 // Shows command lists: the embedded plot, or a list file.
+#![tactic(auto)]
+
 
 mod facts;
 mod show;

@@ -3,8 +3,8 @@ use Rattle.bindings.specs.Extents.{single}
 use Rattle.bindings.proofs.Whole.{single_number, single_exact}
 use Rattle.bindings.proofs.extent.single_bits.Goals as goal
 
-pub float-to_bits-result : goal.float-to_bits-result
-float-to_bits-result c = single_number c.args.number (omega arith)
+pub float_to_bits-result : goal.float_to_bits-result
+float_to_bits-result c = single_number c.args.number (omega arith)
 
 pub returns : goal.returns
 unfolding single

@@ -18,8 +18,8 @@ room c =
     let u : IsUtf8 c.args.text.now = search rules in
     omega (arith, r, inv.0, text_units_le c.args.text.now u, c.requires)
 
-pub offset-bounds-units-n : goal.offset-bounds-units-n
-offset-bounds-units-n c = omega (arith, room c)
+pub offset_bounds-units-n : goal.offset_bounds-units-n
+offset_bounds-units-n c = omega (arith, room c)
 
 pub bounds-units-n : goal.bounds-units-n
 bounds-units-n c = omega (arith, room (goal.at.bounds-units-n c).In-Some)

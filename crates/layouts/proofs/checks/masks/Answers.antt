@@ -12,8 +12,8 @@ loop-info-preserved c =
     let h : c.loop-info.info-index < length c.args.infos.now = omega arith in (
       gathers_more is_table c.args.infos.now c.loop-info.info-index c.loop-info.tables _ h c.loop-info.invariant.0 c.table_mask-tables.ensures,
       gathers_more is_uniform c.args.infos.now c.loop-info.info-index c.loop-info.uniforms _ h c.loop-info.invariant.1 c.uniform_mask-uniforms.ensures,
-      or_lt 64 c.loop-info.tables _ c.loop-info.invariant.2 c.table_mask-tables.type-inv,
-      or_lt 64 c.loop-info.uniforms _ c.loop-info.invariant.3 c.uniform_mask-uniforms.type-inv,
+      or_lt 64 c.loop-info.tables _ c.loop-info.invariant.2 c.table_mask-tables.type_inv,
+      or_lt 64 c.loop-info.uniforms _ c.loop-info.invariant.3 c.uniform_mask-uniforms.type_inv,
     )
 
 pub returns : goal.returns

@@ -2,11 +2,11 @@ use Rattle.std.proofs.Common.{arith, length-set}
 use Rattle.list_bytes.proofs.Listing.{opened_whole, opened_some, none_whole}
 use Rattle.list_bytes.proofs.ListBytes.new.Goals as goal
 
-pub invariant-of-result : goal.invariant-of-result
-invariant-of-result c = (omega arith, (omega arith, (none_whole, tt)))
+pub invariant_of-result : goal.invariant_of-result
+invariant_of-result c = (omega arith, (omega arith, (none_whole, tt)))
 
-pub invariant-of-result-2 : goal.invariant-of-result-2
-invariant-of-result-2 c =
+pub invariant_of-result-2 : goal.invariant_of-result-2
+invariant_of-result-2 c =
     let bs = c.args.bytes.now in
     let l = length-set bs 0 1 in
     (omega (arith, c.if-bytes-eq0.false), (omega (arith, c.if-bytes-gt-MOST_BYTES.false), (opened_whole bs (omega (arith, c.if-bytes-eq0.false)), tt)))

@@ -2,8 +2,8 @@ use Rattle.std.proofs.Common.{arith}
 use Rattle.list_bytes.proofs.Listing.{anew_whole, anew_listed, anew_none}
 use Rattle.list_bytes.proofs.ListBytesRecorder.start_anew.Goals as goal
 
-pub invariant-of-self : goal.invariant-of-self
-invariant-of-self c =
+pub invariant_of-self : goal.invariant_of-self
+invariant_of-self c =
     let s = c.args.self.now in
     (tt, (omega (arith, s.within, c.if-self-gt0.true), (s.small, (anew_whole _ _ s.whole s.within c.if-self-gt0.true, tt))))
 

@@ -1,4 +1,4 @@
-use Rattle.std.proofs.Common.{◌≡◌, ◌*◌, ◌/◌, length, refl, arith}
+use Rattle.std.proofs.Common.{◌*◌, ◌/◌, length, refl, arith}
 use Rattle.command_list.specs.Commands.{ResourceBarrier, entry}
 use Rattle.command_list.specs.Seen.{entries_of}
 use Rattle.list_writer.proofs.Rows.{total_entries}
@@ -13,4 +13,4 @@ append_row-requires c =
     omega (arith, readable_total (ResourceBarrier (entries_of p)) c.requires, total_entries entry 17 (λ u. refl) (entries_of p), count_barriers _ 0 p (entries_of p) (some_barriers p c.requires), cut_total (17 * (length p / 17)) p (omega arith))
 
 pub returns : goal.returns
-returns c = let p = c.args.entries.now in entries_read p _ (some_barriers p c.requires) _ _ _ _ _ (λ i. omega (arith, c.type-inv.entries i)) refl c.append_row.ensures
+returns c = let p = c.args.entries.now in entries_read p _ (some_barriers p c.requires) _ _ _ _ _ (λ i. omega (arith, c.type_inv.entries i)) refl c.append_row.ensures

@@ -1,4 +1,4 @@
-use Rattle.std.proofs.Common.{◌≡◌, sym, refl, ◌∙◌}
+use Rattle.std.proofs.Common.{sym, refl, ◌∙◌}
 use Rattle.std.proofs.lemmas.Bool.{both_ways}
 use Rattle.list_writer.proofs.Readable.{appended, readable_fixed}
 use Rattle.list_writer.proofs.writer.append_fixed.Goals as goal

@@ -1,4 +1,4 @@
-use Rattle.std.proofs.Common.{◌≡◌, ◌*◌, ◌/◌, length, refl, arith}
+use Rattle.std.proofs.Common.{◌*◌, ◌/◌, length, refl, arith}
 use Rattle.command_list.specs.Commands.{BeginEvent, unit}
 use Rattle.command_list.specs.Seen.{every}
 use Rattle.list_writer.proofs.Rows.{total_entries}
@@ -13,4 +13,4 @@ append_row-requires c =
     omega (arith, readable_total (BeginEvent (every 2 p)) c.requires, total_entries unit 2 (λ u. refl) (every 2 p), length_every 2 p, cut_total (2 * (length p / 2)) p (omega arith))
 
 pub returns : goal.returns
-returns c = units_read _ _ _ _ c.args.units.now _ (λ i. omega (arith, c.type-inv.units i)) refl c.append_row.ensures
+returns c = units_read _ _ _ _ c.args.units.now _ (λ i. omega (arith, c.type_inv.units i)) refl c.append_row.ensures

@@ -1,4 +1,4 @@
-use Rattle.std.proofs.Common.{◌≡◌, ◌∙◌, inl, inr, arith}
+use Rattle.std.proofs.Common.{◌∙◌, inl, inr, arith}
 use Rattle.list_writer.proofs.Parts.{read_barriers, read_no_barriers}
 use Rattle.list_writer.proofs.writer.entries_readable.Goals as goal
 use Rattle.list_writer.proofs.writer.entries_readable.Goals.{then-n-eq0-via-then-n-eq0, then-n-eq0-via-else-n-eq0+then-n-gt3854}

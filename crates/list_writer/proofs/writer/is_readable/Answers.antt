@@ -1,4 +1,4 @@
-use Rattle.std.proofs.Common.{◌≡◌, ◌&&◌, leb, length, sym, ap, ◌∙◌}
+use Rattle.std.proofs.Common.{◌&&◌, leb, length, sym, ap, ◌∙◌}
 use Rattle.std.proofs.lemmas.Bool.{lt-ltb}
 use Rattle.command_list.specs.Commands.{readable}
 use Rattle.command_list.specs.Seen.{given_command}

@@ -1,4 +1,4 @@
-use Rattle.std.proofs.Common.{◌≡◌, leb, sym, ap, ◌∙◌}
+use Rattle.std.proofs.Common.{leb, sym, ap, ◌∙◌}
 use Rattle.command_list.specs.Commands.{readable}
 use Rattle.command_list.specs.Seen.{command_of, every}
 use Rattle.list_writer.proofs.Readable.{readable_targets}

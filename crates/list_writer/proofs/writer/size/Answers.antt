@@ -1,4 +1,4 @@
-use Rattle.std.proofs.Common.{◌≡◌, sym, refl, ap, ◌∙◌, arith}
+use Rattle.std.proofs.Common.{sym, refl, ap, ◌∙◌, arith}
 use Rattle.command_list.specs.Commands.{size, unit, handle, entry}
 use Rattle.command_list.specs.Seen.{given_command}
 use Rattle.list_writer.proofs.Rows.{total_entries}

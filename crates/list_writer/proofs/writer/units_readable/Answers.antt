@@ -1,4 +1,4 @@
-use Rattle.std.proofs.Common.{◌≡◌, sym, ◌∙◌, inl, inr, arith}
+use Rattle.std.proofs.Common.{sym, inl, inr, arith}
 use Rattle.command_list.specs.Seen.{every}
 use Rattle.list_writer.proofs.Parts.{read_event, read_none, read_no_event}
 use Rattle.list_writer.proofs.writer.units_readable.Goals as goal

@@ -9,8 +9,8 @@ count_code-requires c =
     let z = sized (BeginEvent c.args.label.now) _ _ _ c.in_ok-size.ensures c.in_ok-bytes.ensures in
     (room_for_one _ (device_of s.state) _ _ _ z s.spare s.small).0
 
-pub invariant-of-self : goal.invariant-of-self
-invariant-of-self c =
+pub invariant_of-self : goal.invariant_of-self
+invariant_of-self c =
     let s = c.args.self.now in
     let z = sized (BeginEvent c.args.label.now) _ _ _ c.in_ok-size.ensures c.in_ok-bytes.ensures in
     (s.small, (spares_made _ (device_of s.state) _ _ _ _ z c.count_code.ensures s.spare, tt))

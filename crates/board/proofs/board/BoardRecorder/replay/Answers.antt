@@ -10,8 +10,8 @@ step_record-requires c =
     let z = sized (command_of c.args.«record») _ _ _ c.in_ok-size_record.ensures c.in_ok-bytes.ensures in
     record { ranged = (and_parts _ _ z.readable).0; room = room_for_one _ (device_of s.state) _ _ _ z s.spare s.small }
 
-pub invariant-of-self : goal.invariant-of-self
-invariant-of-self c =
+pub invariant_of-self : goal.invariant_of-self
+invariant_of-self c =
     let s = c.args.self.now in
     let z = sized (command_of c.args.«record») _ _ _ c.in_ok-size_record.ensures c.in_ok-bytes.ensures in
     (s.small, (spares_made _ (device_of s.state) _ _ _ _ z c.step_record.ensures s.spare, tt))

@@ -21,8 +21,8 @@ returns-in_default c =
     let no : WellFormed c.args.bytes.now → ⊥ = λ w. c.in_default.ensures.cases.0 (formed_utf8 c.args.bytes.now w) in
     inr ((refl, refl), c.if-bytes-gt-MOST_BYTES.false, no, λ t. no (formed t))
 
-pub invariant-of-result : goal.invariant-of-result
-invariant-of-result c =
+pub invariant_of-result : goal.invariant_of-result
+invariant_of-result c =
     let t = c.in-Ok.ensures.cases in
     let us = utf16s (chars c.args.bytes.now) in
     let l : length us ≤ 256 = omega (arith, text_units_le c.args.bytes.now t.1, c.if-bytes-gt-MOST_BYTES.false) in

@@ -1,4 +1,4 @@
-use Rattle.std.proofs.Common.{◌≡◌, ◌*◌, length, sym, ap, ◌∙◌, arith}
+use Rattle.std.proofs.Common.{◌*◌, length, sym, ap, ◌∙◌, arith}
 use Rattle.list_writer.proofs.Rows.{total_entries}
 use Rattle.list_writer.proofs.operands.RefSliceOperands.width.Goals as goal
 
