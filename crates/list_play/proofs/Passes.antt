@@ -1,11 +1,11 @@
 -- A file that has been played up to a place.
-use Rattle.std.proofs.Common.{◌≡◌, ℕ, ◌+◌, ◌-◌, ◌<◌, ◌≤◌, true, List, [], ◌∷◌, ◌++◌, length, drop, sym, refl, ap, ◌∙◌, subst, arith}
+use Rattle.std.proofs.Common.{◌≡◌, ℕ, ◌+◌, ◌-◌, ◌<◌, ◌≤◌, true, List, [], ◌∷◌, ◌++◌, length, drop, sym, refl, ap, ◌∙◌, arith}
 use Rattle.std.proofs.lemmas.List.{length-drop}
 use Rattle.std.proofs.lemmas.Bool.{false≢true}
 use Rattle.command_list.specs.declared.fault.Fault.{Fault}
 use Rattle.command_list.specs.Commands.{Command, size, readable}
 use Rattle.command_list.specs.Decoding.{first, front}
-use Rattle.command_list.specs.Files.{Verdict, accepted, refused, after, has_version, file, is_accepted}
+use Rattle.command_list.specs.Files.{accepted, after, has_version, file, is_accepted}
 use Rattle.command_list.specs.Seen.{finished, got, stopped, step_at}
 use Rattle.command_list.proofs.Fronts.{front_within}
 use Rattle.list_writer.proofs.Bytewise.{Bytes, bytes_drop}

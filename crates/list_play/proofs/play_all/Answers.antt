@@ -1,4 +1,4 @@
-use Rattle.std.proofs.Common.{◌≡◌, sym, ap, ◌∙◌, subst, arith}
+use Rattle.std.proofs.Common.{sym, ap, ◌∙◌, subst, arith}
 use Rattle.command_list.specs.Seen.{step_at}
 use Rattle.list_file.proofs.Tails.{some_step, none_step, not_open}
 use Rattle.list_play.proofs.Passes.{Passed, pass_start, pass_more, pass_end, pass_shorter, pass_not_stopped, pass_not_refused}
