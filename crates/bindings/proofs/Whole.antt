@@ -1,5 +1,5 @@
 -- Whole numbers as single floats.
-use Rattle.std.proofs.Common.{◌≡◌, ℕ, ◌≤◌, Bool, true, false, not, T, pos, sym, refl, ap, ◌∙◌, subst, arith, le→leb}
+use Rattle.std.proofs.Common.{ℕ, ◌≤◌, false, not, T, pos, sym, subst, arith, le→leb}
 use lib.Ieee.{Float, nan, inf, fin, Format, binary32, is_nan, in_unsigned, in_float, of_int, to_bits, of_bits}
 use lib.Ieee.Back.{unsigned_back, round_whole}
 use lib.Ieee.Bits.{of_bits-to_bits}

@@ -1,5 +1,5 @@
 -- A rectangle by its ends.
-use Rattle.std.specs.Prelude.{ℕ, ◌+◌, ◌^◌, ◌<◌}
+use Rattle.std.specs.Prelude.{◌+◌, ◌^◌, ◌<◌}
 use Rattle.bindings.specs.declared.rect.Rect.{Rect}
 
 -- its right and lower ends are signed numbers of 32 bits

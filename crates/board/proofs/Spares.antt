@@ -1,12 +1,11 @@
 -- No count passes the space that a board was made with.
 use Rattle.std.proofs.Common.{◌≡◌, ℕ, ◌+◌, ◌-◌, ◌^◌, ◌<◌, ◌≤◌, true, eqb, Some, None, Option, sym, refl, ap, ◌∙◌, subst, arith}
 use Rattle.std.proofs.lemmas.Bool.{eqb-true, cond_both}
-use Rattle.command_list.specs.declared.command.Half.{Half}
 use Rattle.command_list.specs.declared.command.Half.TheVariants.{Graphics, Compute}
 use Rattle.command_list.specs.declared.code.Code.{Code}
 use Rattle.command_list.specs.Commands.{Command, code_of, byte_of, size, readable}
 use Rattle.device.specs.Devices.{Device, more, effect, counted, step, start}
-use Rattle.device.specs.Meaning.{Recorded, Taken}
+use Rattle.device.specs.Meaning.{Taken}
 use Rattle.device.proofs.Steps.{ticked, vertex_slot, root_slot, step_counts, step_vertex_writes, step_root_writes}
 use Rattle.board.specs.declared.state.State.{State}
 use Rattle.board.specs.Boards.{device_of, boarded, Spare, Spares}

@@ -1,5 +1,5 @@
 -- What the board's data mean.
-use Rattle.std.specs.Prelude.{ℕ, ◌+◌, ◌≤◌, List, get_or, Some, None, Option, slice_index, slice_index_or}
+use Rattle.std.specs.Prelude.{ℕ, ◌+◌, ◌≤◌, get_or, Some, None, Option, slice_index, slice_index_or}
 use Rattle.command_list.specs.declared.command.Half.{Half}
 use Rattle.command_list.specs.declared.command.Half.TheVariants.{Graphics, Compute}
 use Rattle.command_list.specs.declared.command.Fixed.{Fixed}

@@ -1,6 +1,6 @@
 -- Runs of commands, one behind the other.
-use Rattle.std.proofs.Common.{◌≡◌, ℕ, ◌+◌, ◌≤◌, List, [], ◌∷◌, ◌++◌, Some, None, Option, sym, refl, ap, ◌∙◌, subst, append_assoc, arith}
-use Rattle.command_list.specs.Commands.{Command, size}
+use Rattle.std.proofs.Common.{◌≡◌, ◌+◌, List, [], ◌∷◌, ◌++◌, Some, None, Option, sym, refl, ap, ◌∙◌, append_assoc, arith}
+use Rattle.command_list.specs.Commands.{Command}
 use Rattle.device.specs.Devices.{Device, step, play}
 use Rattle.device.specs.Meaning.{Meaning, sizes, shown_more, Recorded}
 

@@ -1,13 +1,13 @@
 -- The library's UTF-8 is the standard's, a text has one label, and a label can be recorded.
-use Rattle.std.proofs.Common.{◌≡◌, ℕ, ◌+◌, ◌*◌, ◌<◌, ◌≤◌, Bool, true, false, cond, ◌&&◌, eqb, ltb, leb, ◌⊎◌, List, [], ◌∷◌, ◌++◌, length, IsUtf8, sym, refl, ap, ◌∙◌, subst, ap₂, inl, inr, ⊎_elim, arith, length-append, rules}
+use Rattle.std.proofs.Common.{◌≡◌, ℕ, ◌*◌, ◌<◌, ◌≤◌, true, ltb, List, [], ◌∷◌, ◌++◌, length, IsUtf8, sym, refl, ap, ◌∙◌, ap₂, inl, inr, arith, length-append}
 use lib.Utf8.{encode, encodes, scalar, scalars, scalar_cases}
 use Rattle.std.specs.List.{flat_map}
 use Rattle.std.specs.Str.{chars}
-use Rattle.std.proofs.lemmas.Bool.{and_parts, and_from, lt-ltb, le-ltb, le-leb, cond_both, ltb-true, ltb-false}
+use Rattle.std.proofs.lemmas.Bool.{and_parts, and_from, lt-ltb, le-ltb, le-leb}
 use Rattle.std.proofs.lemmas.List.{length_push}
 use Rattle.std.proofs.lemmas.Str.{chars_from_encodes, encodes-chars, scalars-chars, length-encode}
 use Rattle.command_list.specs.Numbers.{total}
-use Rattle.command_list.specs.Commands.{BeginEvent, ends_with_zero, unit, readable}
+use Rattle.command_list.specs.Commands.{ends_with_zero, unit}
 use Rattle.labels.specs.Unicode.{Scalar, Scalars, utf8, utf8s, utf16, utf16s, Encodes, WellFormed}
 use Rattle.labels.specs.Labels.{IsLabel, label_units, Recordable}
 

@@ -1,8 +1,8 @@
 -- A turn of the loop over a text's units.
-use Rattle.std.proofs.Common.{◌≡◌, ℕ, ◌+◌, ◌<◌, ◌≤◌, ◌⊎◌, List, [], ◌∷◌, ◌++◌, length, take, set, IsUtf8, sym, refl, ap, ◌∙◌, subst, ap₂, inl, inr, append_assoc, arith, length-append}
+use Rattle.std.proofs.Common.{◌≡◌, ℕ, ◌+◌, ◌<◌, ◌≤◌, ◌⊎◌, List, [], ◌∷◌, ◌++◌, length, take, set, IsUtf8, sym, ap, ◌∙◌, subst, ap₂, inl, inr, append_assoc, arith, length-append}
 use lib.Utf8.{encode}
 use Rattle.std.specs.Str.{chars}
-use Rattle.std.proofs.lemmas.List.{append-nil, length_push, nil_from_length, take_more_set}
+use Rattle.std.proofs.lemmas.List.{append-nil, nil_from_length, take_more_set}
 use Rattle.std.proofs.lemmas.Str.{chars_past_char, IsUtf8-past_char, chars-nil}
 use Rattle.labels.specs.Unicode.{utf16, utf16s}
 

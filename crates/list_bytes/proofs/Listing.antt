@@ -1,16 +1,16 @@
 -- What one record more means.
-use Rattle.std.proofs.Common.{◌≡◌, ℕ, zero, suc, ◌+◌, ◌-◌, ◌<◌, ◌≤◌, Bool, true, false, cond, eqb, ltb, leb, ◌⊎◌, List, [], ◌∷◌, ◌++◌, length, take, drop, set, Some, None, Ok, Err, Result, sym, refl, ap, ◌∙◌, subst, inl, inr, ⊎_elim, arith, length-append, length-set}
+use Rattle.std.proofs.Common.{◌≡◌, ℕ, zero, suc, ◌-◌, ◌<◌, ◌≤◌, true, false, ltb, leb, ◌⊎◌, List, [], ◌∷◌, ◌++◌, length, take, drop, set, Some, Ok, Err, Result, sym, refl, ap, ◌∙◌, ⊎_elim, arith, length-append, length-set}
 use Rattle.std.proofs.lemmas.List.{length-take-le, length-drop}
-use Rattle.std.proofs.lemmas.Bool.{lt-ltb, le-ltb, ltb-false, false≢true, cond-true, cond-false, le-leb, lt-leb, and_parts}
+use Rattle.std.proofs.lemmas.Bool.{lt-ltb, ltb-false, false≢true, cond-true, cond-false, le-leb, lt-leb, and_parts}
 use Rattle.command_list.specs.declared.fault.Fault.{Fault}
-use Rattle.command_list.specs.Commands.{Command, record_of, size, framed, code_of, fields}
+use Rattle.command_list.specs.Commands.{Command, record_of, framed, code_of, fields}
 use Rattle.command_list.specs.Decoding.{front}
 use Rattle.command_list.specs.Files.{Verdict, accepted, refused, file, records, has_version, is_accepted}
-use Rattle.list_writer.specs.Writing.{Wrote, Unwritten}
+use Rattle.list_writer.specs.Writing.{Wrote}
 use Rattle.list_writer.proofs.Rows.{length_bytes}
 use Rattle.list_writer.proofs.Whole.{file_is}
 use Rattle.device.specs.Devices.{Device, play, step, start}
-use Rattle.device.specs.Meaning.{Meaning, Taken, Refused, Asked, Anew}
+use Rattle.device.specs.Meaning.{Taken, Asked, Anew}
 use Rattle.list_bytes.specs.Listed.{is_whole, commands_in, listed, Opened, room_for, Added}
 
 pub play_more : (cs : List Command) (c : Command) (d : Device) → play (cs ++ (c ∷ [])) d ≡ step c (play cs d)
@@ -75,11 +75,11 @@ added_asked c xs ys n m (Err f) h s w a = record {
 }
 
 pub added_sound : (c : Command) (xs ys : List ℕ) (n m : ℕ) (r : Result Unit Fault) → n ≤ length xs → length xs ≤ 65536 → is_whole xs n ≡ ltb 0 (length xs) → Added c xs n r m ys →
-    (m ≤ length ys) × ((length ys ≤ 65536) × ((is_whole ys m ≡ ltb 0 (length ys)) × Unit {0}))
-added_sound c xs ys n m (Ok u) h s w a = (still_within c xs ys n m w a, (still_small c xs ys n m w a s, (still_whole c xs ys n m w a, tt)))
+    (m ≤ length ys) × (length ys ≤ 65536) × (is_whole ys m ≡ ltb 0 (length ys))
+added_sound c xs ys n m (Ok u) h s w a = (still_within c xs ys n m w a, still_small c xs ys n m w a s, still_whole c xs ys n m w a)
 added_sound c xs ys n m (Err f) h s w a =
     let e = ap length a.0.same in
-    (omega (arith, a.1), (omega arith, ((λ i. is_whole (a.0.same i) (a.1 i)) ∙ w ∙ ap (ltb 0) (sym e), tt)))
+    (omega (arith, a.1), omega arith, (λ i. is_whole (a.0.same i) (a.1 i)) ∙ w ∙ ap (ltb 0) (sym e))
 
 -- a list file begins with its version, which alone is an empty list file
 version_only : (xs : List ℕ) (n : ℕ) → 0 < n → is_accepted (file (take n xs)) ≡ true → file (take 1 xs) ≡ accepted []

@@ -1,9 +1,8 @@
 -- What list bytes mean: it is read off the bytes themselves.
-use Rattle.std.specs.Prelude.{◌≡◌, ℕ, ◌-◌, ◌<◌, ◌≤◌, Bool, cond, List, [], ◌∷◌, length, take, Some, Ok, Err, Result, nat_le}
+use Rattle.std.specs.Prelude.{◌≡◌, ℕ, ◌-◌, Bool, cond, List, [], length, take, Some, Ok, Err, Result, nat_le}
 use Rattle.command_list.specs.declared.fault.Fault.{Fault}
 use Rattle.command_list.specs.Commands.{Command}
 use Rattle.command_list.specs.Files.{Verdict, accepted, refused, file, is_accepted}
-use Rattle.command_list.specs.Seen.{IsFault}
 use Rattle.list_writer.specs.Writing.{Wrote, Unwritten}
 use Rattle.device.specs.Devices.{play, start}
 use Rattle.device.specs.Meaning.{Meaning}

@@ -1,7 +1,7 @@
 -- Lists of commands, one command on.
-use Rattle.std.proofs.Common.{◌≡◌, ℕ, zero, suc, ◌+◌, ◌-◌, ◌<◌, ◌≤◌, Bool, true, false, ◌&&◌, List, [], ◌∷◌, ◌++◌, map, length, get_or, take, drop, sym, refl, ap, ◌∙◌, subst, ap₂, append_assoc, append-nil, arith, length-append}
+use Rattle.std.proofs.Common.{◌≡◌, ℕ, zero, suc, ◌+◌, ◌-◌, ◌<◌, ◌≤◌, true, false, List, [], ◌∷◌, ◌++◌, map, length, get_or, take, drop, sym, refl, ap, ◌∙◌, subst, ap₂, append_assoc, arith, length-append}
 use Rattle.std.specs.List.{flat_map}
-use Rattle.std.proofs.lemmas.List.{take_more, take_all, take_at, drop_at, drop-drop, flat_map_more, map_more, length-drop, take-append-drop, length-take-le, take-map, get_or-map, length-map}
+use Rattle.std.proofs.lemmas.List.{take_more, take_all, take_at, drop_at, drop-drop, flat_map_more, length-drop, take-append-drop, get_or-map, length-map}
 use Rattle.std.proofs.lemmas.Bool.{and_parts, and_from, false≢true}
 use Rattle.command_list.specs.declared.fault.Fault.{Fault}
 use Rattle.command_list.specs.declared.command.Command.{Command as Given}
@@ -9,7 +9,7 @@ use Rattle.command_list.specs.Commands.{Command, record_of, size, readable, fram
 use Rattle.command_list.specs.Files.{encoded, file, accepted}
 use Rattle.command_list.specs.Seen.{given_command}
 use Rattle.list_file.specs.Passing.{all_readable, Listed}
-use Rattle.list_writer.specs.Writing.{room, Began, Unbegun, Wrote, Unwritten}
+use Rattle.list_writer.specs.Writing.{Began, Wrote, Unwritten}
 use Rattle.list_writer.proofs.Rows.{length_bytes}
 
 length_record : (c : Command) → length (record_of c) ≡ size c

@@ -1,9 +1,9 @@
 -- Entries put behind one another from a fill on.
-use Rattle.std.proofs.Common.{◌≡◌, ℕ, ◌+◌, ◌-◌, ◌*◌, ◌<◌, ◌≤◌, true, false, List, [], ◌∷◌, ◌++◌, map, length, get_or, take, drop, set, Some, None, Option, sym, refl, ap, ◌∙◌, subst, ap₂, arith, length-append, length-set}
-use Rattle.std.specs.List.{between, flat_map}
+use Rattle.std.proofs.Common.{◌≡◌, ℕ, ◌+◌, ◌<◌, ◌≤◌, List, [], ◌∷◌, ◌++◌, length, get_or, take, drop, set, Some, None, Option, sym, refl, ap, ◌∙◌, ap₂, arith, length-append, length-set}
+use Rattle.std.specs.List.{between}
 use Rattle.std.specs.Option.{option_to_list}
-use Rattle.std.proofs.lemmas.List.{append-nil, append_assoc, take_more, take-set, get_or-set_same, take_all, take-set-le, map-append, drop_all, take-append-drop, length_push}
-use Rattle.std.proofs.lemmas.List.Edits.{between_more, between_none, length-between}
+use Rattle.std.proofs.lemmas.List.{append-nil, append_assoc, take_more, take-set, get_or-set_same, take_all, take-set-le, map-append, take-append-drop, length_push}
+use Rattle.std.proofs.lemmas.List.Edits.{between_more, between_none}
 use Rattle.std.proofs.lemmas.Slice.{between_is}
 use Rattle.command_list.specs.declared.command.Barrier.{Barrier}
 use Rattle.resources.specs.declared.barrier.ResourceBarrier.{ResourceBarrier as Item}

@@ -1,10 +1,10 @@
 -- The digits of a state are what the flags bring.
-use Rattle.std.proofs.Common.{◌≡◌, ℕ, zero, suc, ◌+◌, ◌-◌, ◌*◌, ◌/◌, ◌%◌, ◌^◌, ◌<◌, ◌≤◌, max, Bool, true, false, cond, eqb, ◌⊎◌, List, [], ◌∷◌, length, get_or, sym, refl, ap, ◌∙◌, subst, ap₂, inl, inr, ⊎_elim, add-zero, add-suc, suc-add, one-mul, pow-suc, zero-add, zero-mul, add-one, one-add, arith, pow_pos}
+use Rattle.std.proofs.Common.{◌≡◌, ℕ, zero, suc, ◌+◌, ◌-◌, ◌*◌, ◌/◌, ◌%◌, ◌^◌, ◌<◌, max, true, false, cond, eqb, ◌⊎◌, List, [], ◌∷◌, length, get_or, sym, ap, ◌∙◌, inl, inr, ⊎_elim, add-zero, add-suc, suc-add, one-mul, pow-suc, zero-add, zero-mul, add-one, one-add, arith, pow_pos}
 use native.Mathlib.Nat.{zero-div}
 use lib.Bits.{bit_and, bit_or, and_high, or_shr, or_step}
-use Rattle.std.proofs.lemmas.Bool.{ne_eqb, cases_Bool, cases_eq, both_ways, cond-true, cond-false}
+use Rattle.std.proofs.lemmas.Bool.{ne_eqb, cases_Bool, cases_eq, cond-true, cond-false}
 use Rattle.resources.specs.States.{COMMON, digit, has, flag_state, united, buffer_flags, texture_flags}
-use Rattle.resources.specs.Usages.{Usage, buffer, texture, state_of, flags_of, bits_of, Brings, Stated}
+use Rattle.resources.specs.Usages.{Usage, buffer, texture, state_of, Stated}
 
 -- ---- a digit
 

@@ -1,5 +1,5 @@
 -- A call that makes barriers in the caller's scratch and records them at once.
-use Rattle.std.specs.Prelude.{◌≡◌, ℕ, ◌+◌, ◌-◌, ◌<◌, ◌≤◌, ◌⊎◌, List, [], ◌∷◌, length, take, drop, Some, None, Ok, Err, Option, Result}
+use Rattle.std.specs.Prelude.{◌≡◌, ℕ, ◌+◌, ◌-◌, ◌<◌, ◌≤◌, ◌⊎◌, List, [], ◌∷◌, length, take, drop, None, Ok, Err, Result}
 use Rattle.command_list.specs.declared.command.Barrier.{Barrier}
 use Rattle.command_list.specs.declared.fault.Fault.{Fault}
 use Rattle.command_list.specs.Commands.{Command, ResourceBarrier}

@@ -1,5 +1,5 @@
 -- The changes that the program's own values stand for.
-use Rattle.std.specs.Prelude.{ℕ, List, map}
+use Rattle.std.specs.Prelude.{List, map}
 use Rattle.resources.specs.declared.barrier.ResourceBarrier.{ResourceBarrier}
 use Rattle.resources.specs.Usages.{Usage}
 use Rattle.resources.specs.Barriers.{Change}

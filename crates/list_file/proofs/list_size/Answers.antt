@@ -1,4 +1,4 @@
-use Rattle.std.proofs.Common.{◌≡◌, true, map, length, sym, refl, ap, ◌∙◌, arith}
+use Rattle.std.proofs.Common.{map, length, sym, refl, ap, ◌∙◌}
 use Rattle.std.proofs.lemmas.List.{take_all, length-map}
 use Rattle.std.proofs.lemmas.Result.{err_from_is_err_and}
 use Rattle.command_list.specs.Files.{encoded}

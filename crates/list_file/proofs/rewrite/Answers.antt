@@ -1,4 +1,4 @@
-use Rattle.std.proofs.Common.{◌≡◌, refl, ap, ◌∙◌, subst, arith}
+use Rattle.std.proofs.Common.{arith}
 use Rattle.list_file.proofs.Tails.{rewrote, holds_accepted}
 use Rattle.list_file.proofs.rewrite.Goals as goal
 

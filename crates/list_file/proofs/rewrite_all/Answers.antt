@@ -1,5 +1,4 @@
-use Rattle.std.proofs.Common.{◌≡◌, ◌<◌, sym, refl, ap, ◌∙◌, subst, arith}
-use Rattle.std.proofs.lemmas.Result.{err_from_is_err_and}
+use Rattle.std.proofs.Common.{sym, ap, ◌∙◌, subst, arith}
 use Rattle.command_list.specs.Seen.{step_at, command_of}
 use Rattle.list_writer.specs.Writing.{Wrote, Unwritten}
 use Rattle.list_file.proofs.Tails.{some_step, none_step, Again, again_start, again_more, again_end, shorter, not_begun, not_open, not_stopped, not_unwritten}

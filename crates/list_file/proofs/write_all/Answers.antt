@@ -1,4 +1,4 @@
-use Rattle.std.proofs.Common.{◌≡◌, ◌≤◌, map, length, arith}
+use Rattle.std.proofs.Common.{map, arith}
 use Rattle.std.proofs.lemmas.List.{length-map}
 use Rattle.command_list.specs.Seen.{given_command}
 use Rattle.list_file.proofs.Sizes.{sofar_start, began_length, given_refusal, given_more, sofar_all}

@@ -1,8 +1,5 @@
-use Rattle.std.proofs.Common.{◌≡◌, None}
-use mathlib.Core.Path.{fun_ext}
-use Rattle.command_list.specs.declared.command.Half.TheVariants.{Graphics, Compute}
-use Rattle.board.specs.declared.state.RootSlot.TheVariants.{Unset}
-use Rattle.board.specs.Boards.{slot_of, view_of, no_view}
+use Rattle.std.proofs.Common.{None}
+use Rattle.board.specs.Boards.{view_of, no_view}
 use Rattle.board.proofs.Sets.{read_replicate, fresh_halves}
 use Rattle.board.proofs.changes.fresh.Goals as goal
 

@@ -1,6 +1,6 @@
-use Rattle.std.proofs.Common.{◌≡◌, Some, None, sym, ap, ◌∙◌, arith}
-use Rattle.device.specs.Devices.{words_of, written, words, update}
-use Rattle.board.specs.Boards.{slot_of, roots_of}
+use Rattle.std.proofs.Common.{Some, None, ap, ◌∙◌, arith}
+use Rattle.device.specs.Devices.{written, words, update}
+use Rattle.board.specs.Boards.{roots_of}
 use Rattle.board.proofs.Sets.{read_set}
 use Rattle.board.proofs.changes.put_word.Goals as goal
 

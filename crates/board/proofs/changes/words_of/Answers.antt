@@ -1,4 +1,4 @@
-use Rattle.std.proofs.Common.{◌≡◌, None, sym, refl, ap, ◌∙◌}
+use Rattle.std.proofs.Common.{None, sym, refl, ap, ◌∙◌}
 use mathlib.Core.Path.{fun_ext}
 use Rattle.device.specs.Devices.{words_of}
 use Rattle.board.specs.Boards.{slot_of}

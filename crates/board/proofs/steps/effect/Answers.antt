@@ -1,8 +1,7 @@
-use Rattle.std.proofs.Common.{◌≡◌, ℕ, Option, sym, ap, ◌∙◌}
+use Rattle.std.proofs.Common.{◌≡◌, ℕ, sym, ap, ◌∙◌}
 use Rattle.command_list.specs.Seen.{fixed_command}
 use Rattle.device.specs.Devices.{Device, effect, drawn, on_half, wiped}
 use Rattle.board.specs.declared.state.State.{State}
-use Rattle.command_list.specs.declared.command.Half.{Half}
 use Rattle.command_list.specs.declared.command.Fixed.{Fixed}
 use Rattle.command_list.specs.declared.command.Fixed.TheVariants as fixed
 use Rattle.board.specs.Boards.{device_of}

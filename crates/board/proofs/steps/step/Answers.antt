@@ -1,4 +1,4 @@
-use Rattle.std.proofs.Common.{◌≡◌, ◌-◌, ◌^◌, sym, ap, ◌∙◌, subst}
+use Rattle.std.proofs.Common.{◌-◌, ◌^◌, sym, subst}
 use Rattle.command_list.specs.Seen.{fixed_command}
 use Rattle.board.specs.Boards.{Spare, device_of}
 use Rattle.device.proofs.Steps.{effect_counts}

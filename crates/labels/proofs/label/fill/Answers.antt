@@ -1,4 +1,4 @@
-use Rattle.std.proofs.Common.{◌≡◌, ◌+◌, ◌<◌, ◌≤◌, length, take, IsUtf8, sym, refl, ap, ◌∙◌, arith, rules}
+use Rattle.std.proofs.Common.{◌<◌, length, IsUtf8, ap, ◌∙◌, arith, rules}
 use Rattle.std.specs.Str.Iter.{encode_utf16_rest, encode_utf16_pending}
 use Rattle.std.specs.Str.{chars}
 use Rattle.std.proofs.lemmas.List.{length_push, length-set}

@@ -5,7 +5,7 @@ use Rattle.list_bytes.proofs.ListBytesRecorder.start_anew.Goals as goal
 pub invariant_of-self : goal.invariant_of-self
 invariant_of-self c =
     let s = c.args.self.now in
-    (tt, (omega (arith, s.within, c.if-self-gt0.true), (s.small, (anew_whole _ _ s.whole s.within c.if-self-gt0.true, tt))))
+    record { within = omega (arith, s.within, c.if-self-gt0.true); small = s.small; whole = anew_whole _ _ s.whole s.within c.if-self-gt0.true }
 
 pub returns-then-self-gt0 : goal.returns-then-self-gt0
 returns-then-self-gt0 c = let s = c.args.self.now in anew_listed _ _ s.whole s.within c.if-self-gt0.true

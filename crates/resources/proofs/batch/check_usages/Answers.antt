@@ -1,4 +1,4 @@
-use Rattle.std.proofs.Common.{◌≡◌, sym, refl, ap, ◌∙◌}
+use Rattle.std.proofs.Common.{sym, ap, ◌∙◌}
 use Rattle.resources.specs.Barriers.{in_range, refused_at}
 use Rattle.resources.proofs.Firsts.{passes, fails, all_pass}
 use Rattle.resources.proofs.batch.check_usages.Goals as goal

@@ -1,4 +1,4 @@
-use Rattle.std.proofs.Common.{◌≡◌, sym, refl, ap, ◌∙◌}
+use Rattle.std.proofs.Common.{◌∙◌}
 use Rattle.resources.specs.States.{COPY_SOURCE, COPY_DEST, INDEX_BUFFER, VERTEX_AND_CONSTANT_BUFFER, UNORDERED_ACCESS, INDIRECT_ARGUMENT}
 use Rattle.resources.specs.Usages.{buffer}
 use Rattle.resources.proofs.States.{flag_is, stated}

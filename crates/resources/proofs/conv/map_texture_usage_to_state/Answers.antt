@@ -1,4 +1,4 @@
-use Rattle.std.proofs.Common.{◌≡◌, sym, refl, ap, ◌∙◌}
+use Rattle.std.proofs.Common.{◌∙◌}
 use Rattle.resources.specs.States.{COMMON, COPY_SOURCE, COPY_DEST, ALL_SHADER_RESOURCE, RENDER_TARGET, DEPTH_READ, DEPTH_WRITE, UNORDERED_ACCESS}
 use Rattle.resources.specs.Usages.{texture}
 use Rattle.resources.proofs.States.{flag_is, stated}

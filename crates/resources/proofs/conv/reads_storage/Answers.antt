@@ -1,6 +1,6 @@
-use Rattle.std.proofs.Common.{◌≡◌, ℕ, true, false, cond, sym, refl, ap, ◌∙◌}
+use Rattle.std.proofs.Common.{◌≡◌, ℕ, refl, ◌∙◌}
 use Rattle.std.proofs.lemmas.Bool.{cond_both}
-use Rattle.resources.specs.States.{has, flag_state, COMMON, ALL_SHADER_RESOURCE}
+use Rattle.resources.specs.States.{has, COMMON, ALL_SHADER_RESOURCE}
 use Rattle.resources.proofs.States.{flag_is, flag_on, flag_off}
 use Rattle.resources.proofs.conv.reads_storage.Goals as goal
 

@@ -1,6 +1,6 @@
 use Rattle.command_list.specs.Commands.{OMSetRenderTargets}
 use Rattle.board.specs.Boards.{device_of}
-use Rattle.board.proofs.Spares.{Sized, sized, room_for_one, spares_made, board_taken}
+use Rattle.board.proofs.Spares.{sized, room_for_one, spares_made, board_taken}
 use Rattle.board.proofs.board.BoardRecorder.om_set_render_targets.Goals as goal
 
 pub count_code-requires : goal.count_code-requires
@@ -13,7 +13,7 @@ pub invariant_of-self : goal.invariant_of-self
 invariant_of-self c =
     let s = c.args.self.now in
     let z = sized (OMSetRenderTargets c.args.targets.now) _ _ _ c.in_ok-size.ensures c.in_ok-bytes.ensures in
-    (s.small, (spares_made _ (device_of s.state) _ _ _ _ z c.count_code.ensures s.spare, tt))
+    record { small = s.small; spare = spares_made _ (device_of s.state) _ _ _ _ z c.count_code.ensures s.spare }
 
 pub returns : goal.returns
 returns c =

@@ -1,7 +1,7 @@
 use Rattle.std.proofs.lemmas.Bool.{and_parts}
 use Rattle.command_list.specs.Seen.{command_of}
 use Rattle.board.specs.Boards.{device_of}
-use Rattle.board.proofs.Spares.{Sized, sized, room_for_one, spares_made, board_taken}
+use Rattle.board.proofs.Spares.{sized, room_for_one, spares_made, board_taken}
 use Rattle.board.proofs.board.BoardRecorder.replay.Goals as goal
 
 pub step_record-requires : goal.step_record-requires
@@ -14,7 +14,7 @@ pub invariant_of-self : goal.invariant_of-self
 invariant_of-self c =
     let s = c.args.self.now in
     let z = sized (command_of c.args.«record») _ _ _ c.in_ok-size_record.ensures c.in_ok-bytes.ensures in
-    (s.small, (spares_made _ (device_of s.state) _ _ _ _ z c.step_record.ensures s.spare, tt))
+    record { small = s.small; spare = spares_made _ (device_of s.state) _ _ _ _ z c.step_record.ensures s.spare }
 
 pub returns : goal.returns
 returns c =

@@ -1,4 +1,4 @@
-use Rattle.std.proofs.Common.{◌≡◌, ◌+◌, ◌<◌, ◌≤◌, [], ◌∷◌, ◌++◌, length, take, set, sym, refl, ap, ◌∙◌, subst, inr, arith, rules}
+use Rattle.std.proofs.Common.{◌≡◌, ◌+◌, ◌≤◌, length, take, set, sym, refl, ap, ◌∙◌, subst, inr, arith}
 use Rattle.std.specs.Str.{chars}
 use Rattle.labels.specs.Unicode.{utf16s, WellFormed}
 use Rattle.labels.specs.Labels.{label_units, Recordable, IsLabel}
@@ -27,7 +27,7 @@ invariant_of-result c =
     let us = utf16s (chars c.args.bytes.now) in
     let l : length us ≤ 256 = omega (arith, text_units_le c.args.bytes.now t.1, c.if-bytes-gt-MOST_BYTES.false) in
     let w : c.fill-n.result + 1 ≤ 257 = omega (arith, c.fill-n.ensures.count, ap length t.0) in
-    (w, (subst Recordable (sym (made c)) (recordable us l), tt))
+    record { within = w; recordable = subst Recordable (sym (made c)) (recordable us l) }
 
 pub returns : goal.returns
 returns c =
