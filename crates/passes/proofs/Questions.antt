@@ -1,12 +1,11 @@
 -- What the questions of a call asked, where every one says yes.
-use Rattle.std.proofs.Common.{◌≡◌, ℕ, zero, suc, ◌+◌, ◌<◌, ◌≤◌, Bool, true, false, cond, ◌&&◌, eqb, ltb, ◌⊎◌, List, [], ◌∷◌, length, is_some, Some, None, Decides, Option, sym, refl, ap, ◌∙◌, inl, inr, ⊎_elim, arith}
-use Rattle.std.proofs.lemmas.Bool.{true≢false, false≢true, eqb-true, eq-eqb, ltb-true, cases_eq, cases_Bool, and_parts, and_from, cond-true}
+use Rattle.std.proofs.Common.{◌≡◌, ℕ, zero, suc, ◌+◌, ◌<◌, ◌≤◌, Bool, true, false, cond, ◌&&◌, eqb, ltb, List, [], ◌∷◌, length, is_some, Some, None, Option, sym, refl, ap, ◌∙◌, ⊎_elim, arith}
+use Rattle.std.proofs.lemmas.Bool.{true≢false, false≢true, eqb-true, ltb-true, cases_eq, and_parts, cond-true}
 use Rattle.command_list.specs.declared.fault.Fault.{Fault}
 use Rattle.command_list.specs.declared.fault.Number.{Number}
 use Rattle.command_list.specs.declared.fault.Number.TheVariants as number
 use Rattle.layouts.specs.declared.info.BindGroupInfo.{BindGroupInfo}
 use Rattle.layouts.specs.declared.info.ImmediatesInfo.{ImmediatesInfo}
-use Rattle.layouts.specs.declared.info.PipelineLayoutSpecialConstants.{PipelineLayoutSpecialConstants}
 use Rattle.layouts.specs.declared.layout.PipelineLayout.{PipelineLayout}
 use Rattle.layouts.specs.declared.pipeline.RenderPipeline.{RenderPipeline}
 use Rattle.layouts.specs.declared.pipeline.ComputePipeline.{ComputePipeline}
@@ -16,7 +15,7 @@ use Rattle.layouts.proofs.SameLayouts.{same_layout_lem}
 use Rattle.bindings.specs.declared.binding.BufferBinding.{BufferBinding}
 use Rattle.passes.specs.declared.element.RootElement.{RootElement}
 use Rattle.passes.specs.Account.{Account, Pipeline, is_current, fits_owner, unfit}
-use Rattle.passes.specs.Calls.{set_bind_group, set_immediates, set_render_pipeline, set_compute_pipeline, set_vertex_buffer, DrawCall, addresses, unless, before, is_there, is_handle, table_there, uniforms_are, too_far, fault_at, same_flag, same_specials, same_immediates, same_group, same_groups, same_layout, agrees, asks_layout, words_fit, binding_fits, asks_set, drawable, buffer_there, asks_draw, fault}
+use Rattle.passes.specs.Calls.{set_bind_group, set_immediates, set_render_pipeline, set_compute_pipeline, set_vertex_buffer, DrawCall, addresses, unless, before, is_there, is_handle, table_there, uniforms_are, too_far, fault_at, agrees, asks_layout, words_fit, binding_fits, asks_set, drawable, buffer_there, asks_draw, fault}
 
 -- ---- questions, one behind the other
 

@@ -1,5 +1,5 @@
 -- The calls of a pass: what each asks, records, leaves and touches.
-use Rattle.std.specs.Prelude.{ℕ, zero, suc, ◌+◌, ◌-◌, ◌/◌, ◌%◌, ◌^◌, Bool, true, false, cond, not, ◌&&◌, ◌||◌, List, [], ◌∷◌, ◌++◌, map, length, Some, None, Option, ◌==◌, nat_le, nat_lt, slice_index_or}
+use Rattle.std.specs.Prelude.{ℕ, ◌+◌, ◌/◌, ◌%◌, ◌^◌, Bool, true, false, cond, not, ◌&&◌, ◌||◌, List, [], ◌∷◌, ◌++◌, length, Some, None, Option, ◌==◌, nat_le, nat_lt, slice_index_or}
 use Rattle.command_list.specs.declared.command.Half.{Half}
 use Rattle.command_list.specs.declared.command.Half.TheVariants.{Graphics, Compute}
 use Rattle.command_list.specs.declared.fault.Fault.{Fault}
@@ -8,7 +8,6 @@ use Rattle.command_list.specs.declared.fault.Number.TheVariants as number
 use Rattle.command_list.specs.Commands.{Command, SetRootSignature, SetPipelineState, IASetPrimitiveTopology, DrawInstanced, Dispatch, ExecuteIndirect}
 use Rattle.layouts.specs.declared.info.BindGroupInfo.{BindGroupInfo}
 use Rattle.layouts.specs.declared.info.ImmediatesInfo.{ImmediatesInfo}
-use Rattle.layouts.specs.declared.info.PipelineLayoutSpecialConstants.{PipelineLayoutSpecialConstants}
 use Rattle.layouts.specs.declared.layout.PipelineLayout.{PipelineLayout}
 use Rattle.layouts.specs.declared.pipeline.RenderPipeline.{RenderPipeline}
 use Rattle.layouts.specs.declared.pipeline.ComputePipeline.{ComputePipeline}
@@ -21,7 +20,7 @@ use Rattle.bindings.specs.Constants.{constants}
 use Rattle.bindings.specs.Bindings.{address_of, size_of}
 use Rattle.passes.specs.declared.element.RootElement.{RootElement}
 use Rattle.passes.specs.declared.element.RootElement.TheVariants.{Immediates}
-use Rattle.passes.specs.Account.{Bound, Views, Pipeline, Account, with_roots, filled, filled_from, switched, switch_touches, is_current, overwritten, with_immediates, group_elements, zeros, constants_at, constants_touch, current_special, own_slot, emptied, untouched, with_vertices, rebased, strided, restrides, views_untouched, unfit}
+use Rattle.passes.specs.Account.{Bound, Views, Pipeline, Account, filled, filled_from, switched, switch_touches, is_current, overwritten, with_immediates, group_elements, zeros, constants_at, constants_touch, current_special, own_slot, emptied, untouched, rebased, strided, restrides, views_untouched, unfit}
 use Rattle.passes.specs.Flush.{flushed}
 
 -- ---- setting
