@@ -231,11 +231,13 @@ pub kept : (signature total : ℕ) (s : Option PipelineLayoutSpecialConstants) (
     → p ≡ not (eqb signature 0) → p ≡ true → r ≡ fits total s i gs → r ≡ true → q ≡ once_below (owners s i gs) total → q ≡ true
     → ((k : ℕ) → bit tables k ≡ (ltb k 64 && held is_table (of_groups k gs))) → ((k : ℕ) → bit uniforms k ≡ (ltb k 64 && held is_uniform (of_groups k gs)))
     → (sound signature total s i gs ≡ true)
-    × (((k : ℕ) → bit tables k ≡ owned is_table (owner_of s i gs k)) × (((k : ℕ) → bit uniforms k ≡ owned is_uniform (owner_of s i gs k)) × Unit {0}))
+    × ((k : ℕ) → bit tables k ≡ owned is_table (owner_of s i gs k))
+    × ((k : ℕ) → bit uniforms k ≡ owned is_uniform (owner_of s i gs k))
 kept signature total s i gs tables uniforms p r q n signed f fitting o once t u =
     let fit = sym f ∙ fitting in
     let one = sym o ∙ once in (
       and_from (not (eqb signature 0)) (fits total s i gs && once_below (owners s i gs) total) (sym n ∙ signed)
           (and_from (fits total s i gs) (once_below (owners s i gs) total) fit one),
-      (mask_owner total s i gs fit one is_table tables refl refl t, (mask_owner total s i gs fit one is_uniform uniforms refl refl u, tt)),
+      mask_owner total s i gs fit one is_table tables refl refl t,
+      mask_owner total s i gs fit one is_uniform uniforms refl refl u,
     )

@@ -1,3 +1,5 @@
 pub mod Bits
+pub mod Equal
+pub mod EqualLaws
 pub mod Layouts
 pub mod Owners

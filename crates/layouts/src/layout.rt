@@ -3,8 +3,6 @@ ghost use Rattle.std.specs.Prelude.{◌≡◌, ℕ, true, IfOk, Some, None, Deci
 ghost use Rattle.command_list.specs.Seen.{number_of};
 ghost use Rattle.layouts.specs.Bits.{bit};
 ghost use Rattle.layouts.specs.Owners.{sound, owner_of, owned, is_table, is_uniform, placed, verdict};
-ghost use Rattle.std.specs.Cmp.Rules.{comparing};
-ghost use Rattle.std.proofs.Common.{rules, arith};
 
 use crate::checks::{RANGE, fits, immediates_at, is_signed, masks, once, place, special_at};
 use crate::equal::{equal_groups, equal_immediates, equal_special};
@@ -141,11 +139,17 @@ impl PipelineLayout {
 
 // Two layouts are equal when their parts are; the masks follow from these.
 impl PartialEq for PipelineLayout {
-    ghost equals = { λ x y r. Decides r (x ≡ y) };
+    ghost use Rattle.layouts.specs.Equal.{same_layout};
+    ghost use Rattle.layouts.specs.EqualLaws.{layout_per};
 
-    ghost laws = { first_of (Prim.search (comparing, rules), Prim.grind (arith, Self.row.coded.inj)) };
+    ghost eq = { same_layout };
 
-    fn eq(&self, other: &PipelineLayout) -> bool {
+    ghost laws = { layout_per };
+
+    fn eq(&self, other: &PipelineLayout) -> bool
+        ensures test { result ≡ same_layout self.now other.now }
+        ensures equal { Decides result (self.now ≡ other.now) }
+    {
         if self.signature != other.signature
             || self.total_root_elements != other.total_root_elements
         {

@@ -1,21 +1,21 @@
 -- What the questions of a call asked, where every one says yes.
-use Rattle.std.proofs.Common.{◌≡◌, ℕ, zero, suc, ◌+◌, ◌<◌, ◌≤◌, Bool, true, false, cond, ◌&&◌, eqb, ltb, ◌⊎◌, List, [], ◌∷◌, length, is_some, Some, None, Decides, Option, sym, refl, ap, ◌∙◌, inl, inr, ⊎_elim, arith}
-use Rattle.std.proofs.lemmas.Bool.{true≢false, false≢true, eqb-true, eq-eqb, ltb-true, cases_eq, cases_Bool, and_parts, and_from, cond-true}
+use Rattle.std.proofs.Common.{◌≡◌, ℕ, zero, suc, ◌+◌, ◌<◌, ◌≤◌, Bool, true, false, cond, ◌&&◌, eqb, ltb, List, [], ◌∷◌, length, is_some, Some, None, Option, sym, refl, ap, ◌∙◌, ⊎_elim, arith}
+use Rattle.std.proofs.lemmas.Bool.{true≢false, false≢true, eqb-true, ltb-true, cases_eq, and_parts, cond-true}
 use Rattle.command_list.specs.declared.fault.Fault.{Fault}
 use Rattle.command_list.specs.declared.fault.Number.{Number}
 use Rattle.command_list.specs.declared.fault.Number.TheVariants as number
 use Rattle.layouts.specs.declared.info.BindGroupInfo.{BindGroupInfo}
 use Rattle.layouts.specs.declared.info.ImmediatesInfo.{ImmediatesInfo}
-use Rattle.layouts.specs.declared.info.PipelineLayoutSpecialConstants.{PipelineLayoutSpecialConstants}
 use Rattle.layouts.specs.declared.layout.PipelineLayout.{PipelineLayout}
 use Rattle.layouts.specs.declared.pipeline.RenderPipeline.{RenderPipeline}
 use Rattle.layouts.specs.declared.pipeline.ComputePipeline.{ComputePipeline}
 use Rattle.layouts.specs.Layouts.{owner_in, group_in}
-use Rattle.layouts.proofs.Alike.{layouts_equal}
+use Rattle.layouts.specs.Equal.{same_layout}
+use Rattle.layouts.proofs.SameLayouts.{same_layout_lem}
 use Rattle.bindings.specs.declared.binding.BufferBinding.{BufferBinding}
 use Rattle.passes.specs.declared.element.RootElement.{RootElement}
 use Rattle.passes.specs.Account.{Account, Pipeline, is_current, fits_owner, unfit}
-use Rattle.passes.specs.Calls.{set_bind_group, set_immediates, set_render_pipeline, set_compute_pipeline, set_vertex_buffer, DrawCall, addresses, unless, before, is_there, is_handle, table_there, uniforms_are, too_far, fault_at, same_flag, same_specials, same_immediates, same_group, same_groups, same_layout, agrees, asks_layout, words_fit, binding_fits, asks_set, drawable, buffer_there, asks_draw, fault}
+use Rattle.passes.specs.Calls.{set_bind_group, set_immediates, set_render_pipeline, set_compute_pipeline, set_vertex_buffer, DrawCall, addresses, unless, before, is_there, is_handle, table_there, uniforms_are, too_far, fault_at, agrees, asks_layout, words_fit, binding_fits, asks_set, drawable, buffer_there, asks_draw, fault}
 
 -- ---- questions, one behind the other
 
@@ -35,101 +35,6 @@ fault_none n None e = refl
 fault_none n (Some i) e = absurd (some≢none (fault n i) e)
 
 -- ---- equal layouts
-
-same_flag_lem : (a b : Bool) → same_flag a b ≡ true → a ≡ b
-same_flag_lem true true e = refl
-same_flag_lem true false e = absurd (false≢true e)
-same_flag_lem false true e = absurd (false≢true e)
-same_flag_lem false false e = refl
-
-same_specials_lem : (a b : Option PipelineLayoutSpecialConstants) → same_specials a b ≡ true → a ≡ b
-same_specials_lem None None e = refl
-same_specials_lem None (Some d) e = absurd (false≢true e)
-same_specials_lem (Some c) None e = absurd (false≢true e)
-same_specials_lem (Some c) (Some d) e =
-    let p = and_parts (eqb c.root_index d.root_index) (same_flag c.own_signature d.own_signature) e in
-    λ i. Some (record { root_index = eqb-true c.root_index d.root_index p.0 i; own_signature = same_flag_lem c.own_signature d.own_signature p.1 i })
-
-same_immediates_lem : (a b : Option ImmediatesInfo) → same_immediates a b ≡ true → a ≡ b
-same_immediates_lem None None e = refl
-same_immediates_lem None (Some d) e = absurd (false≢true e)
-same_immediates_lem (Some c) None e = absurd (false≢true e)
-same_immediates_lem (Some c) (Some d) e =
-    let p = and_parts (eqb c.root_index d.root_index) (eqb c.size d.size) e in
-    λ i. Some (record { root_index = eqb-true c.root_index d.root_index p.0 i; size = eqb-true c.size d.size p.1 i })
-
-same_group_lem : (a b : Option BindGroupInfo) → same_group a b ≡ true → a ≡ b
-same_group_lem None None e = refl
-same_group_lem None (Some d) e = absurd (false≢true e)
-same_group_lem (Some c) None e = absurd (false≢true e)
-same_group_lem (Some c) (Some d) e =
-    let p = and_parts (eqb c.base_root_index d.base_root_index) (same_flag c.table d.table && eqb c.uniforms d.uniforms) e in
-    let q = and_parts (same_flag c.table d.table) (eqb c.uniforms d.uniforms) p.1 in
-    λ i. Some (record {
-      base_root_index = eqb-true c.base_root_index d.base_root_index p.0 i;
-      table = same_flag_lem c.table d.table q.0 i;
-      uniforms = eqb-true c.uniforms d.uniforms q.1 i;
-    })
-
-same_groups_lem : (a b : List (Option BindGroupInfo)) → same_groups a b ≡ true → a ≡ b
-same_groups_lem [] [] e = refl
-same_groups_lem [] (h ∷ hs) e = absurd (false≢true e)
-same_groups_lem (g ∷ gs) [] e = absurd (false≢true e)
-same_groups_lem (g ∷ gs) (h ∷ hs) e =
-    let p = and_parts (same_group g h) (same_groups gs hs) e in
-    λ i. same_group_lem g h p.0 i ∷ same_groups_lem gs hs p.1 i
-
-pub same_layout_lem : (l m : PipelineLayout) → same_layout l m ≡ true → l ≡ m
-same_layout_lem l m e =
-    let a = and_parts (eqb l.signature m.signature) _ e in
-    let b = and_parts (eqb l.total_root_elements m.total_root_elements) _ a.1 in
-    let c = and_parts (same_specials l.special_constants m.special_constants) _ b.1 in
-    let d = and_parts (same_immediates l.immediates_info m.immediates_info) _ c.1 in
-    layouts_equal l m (eqb-true l.signature m.signature a.0) (eqb-true l.total_root_elements m.total_root_elements b.0)
-    (same_specials_lem l.special_constants m.special_constants c.0) (same_immediates_lem l.immediates_info m.immediates_info d.0)
-    (same_groups_lem l.bind_group_infos m.bind_group_infos d.1)
-
-flag_same : (a : Bool) → same_flag a a ≡ true
-flag_same true = refl
-flag_same false = refl
-
-specials_same : (a : Option PipelineLayoutSpecialConstants) → same_specials a a ≡ true
-specials_same None = refl
-specials_same (Some c) =
-    and_from (eqb c.root_index c.root_index) (same_flag c.own_signature c.own_signature) (eq-eqb c.root_index c.root_index refl) (flag_same c.own_signature)
-
-immediates_same : (a : Option ImmediatesInfo) → same_immediates a a ≡ true
-immediates_same None = refl
-immediates_same (Some c) =
-    and_from (eqb c.root_index c.root_index) (eqb c.size c.size) (eq-eqb c.root_index c.root_index refl) (eq-eqb c.size c.size refl)
-
-group_same : (a : Option BindGroupInfo) → same_group a a ≡ true
-group_same None = refl
-group_same (Some c) =
-    and_from (eqb c.base_root_index c.base_root_index) (same_flag c.table c.table && eqb c.uniforms c.uniforms)
-    (eq-eqb c.base_root_index c.base_root_index refl)
-    (and_from (same_flag c.table c.table) (eqb c.uniforms c.uniforms) (flag_same c.table) (eq-eqb c.uniforms c.uniforms refl))
-
-groups_same : (a : List (Option BindGroupInfo)) → same_groups a a ≡ true
-groups_same [] = refl
-groups_same (g ∷ gs) = and_from (same_group g g) (same_groups gs gs) (group_same g) (groups_same gs)
-
-layout_same : (l : PipelineLayout) → same_layout l l ≡ true
-layout_same l =
-    and_from (eqb l.signature l.signature) _ (eq-eqb l.signature l.signature refl)
-    (and_from (eqb l.total_root_elements l.total_root_elements) _ (eq-eqb l.total_root_elements l.total_root_elements refl)
-    (and_from (same_specials l.special_constants l.special_constants) _ (specials_same l.special_constants)
-    (and_from (same_immediates l.immediates_info l.immediates_info) _ (immediates_same l.immediates_info) (groups_same l.bind_group_infos))))
-
--- the test of two layouts that decides whether they are equal
-pub decides_same : (l m : PipelineLayout) (r : Bool) → Decides r (l ≡ m) → r ≡ same_layout l m
-decides_same l m r d = by (cases_Bool r) (cases_Bool (same_layout l m))
-  where
-    by : (r ≡ true) ⊎ (r ≡ false) → (same_layout l m ≡ true) ⊎ (same_layout l m ≡ false) → r ≡ same_layout l m
-    by (inl a) (inl b) = a ∙ sym b
-    by (inl a) (inr b) = absurd (true≢false (sym (ap (same_layout l) (sym (d.0 a)) ∙ layout_same l) ∙ b))
-    by (inr a) (inl b) = absurd (true≢false (sym (d.1 (same_layout_lem l m b)) ∙ a))
-    by (inr a) (inr b) = a ∙ sym b
 
 -- a layout that was asked for, and has the current signature, is the current one
 pub current_layout : (l : PipelineLayout) (o : Option PipelineLayout) → asks_layout l o ≡ None → is_current l.signature o ≡ true → o ≡ Some l

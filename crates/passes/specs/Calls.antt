@@ -1,5 +1,5 @@
 -- The calls of a pass: what each asks, records, leaves and touches.
-use Rattle.std.specs.Prelude.{ℕ, zero, suc, ◌+◌, ◌-◌, ◌/◌, ◌%◌, ◌^◌, Bool, true, false, cond, not, ◌&&◌, ◌||◌, List, [], ◌∷◌, ◌++◌, map, length, Some, None, Option, ◌==◌, nat_le, nat_lt, slice_index_or}
+use Rattle.std.specs.Prelude.{ℕ, ◌+◌, ◌/◌, ◌%◌, ◌^◌, Bool, true, false, cond, not, ◌&&◌, ◌||◌, List, [], ◌∷◌, ◌++◌, length, Some, None, Option, ◌==◌, nat_le, nat_lt, slice_index_or}
 use Rattle.command_list.specs.declared.command.Half.{Half}
 use Rattle.command_list.specs.declared.command.Half.TheVariants.{Graphics, Compute}
 use Rattle.command_list.specs.declared.fault.Fault.{Fault}
@@ -8,19 +8,19 @@ use Rattle.command_list.specs.declared.fault.Number.TheVariants as number
 use Rattle.command_list.specs.Commands.{Command, SetRootSignature, SetPipelineState, IASetPrimitiveTopology, DrawInstanced, Dispatch, ExecuteIndirect}
 use Rattle.layouts.specs.declared.info.BindGroupInfo.{BindGroupInfo}
 use Rattle.layouts.specs.declared.info.ImmediatesInfo.{ImmediatesInfo}
-use Rattle.layouts.specs.declared.info.PipelineLayoutSpecialConstants.{PipelineLayoutSpecialConstants}
 use Rattle.layouts.specs.declared.layout.PipelineLayout.{PipelineLayout}
 use Rattle.layouts.specs.declared.pipeline.RenderPipeline.{RenderPipeline}
 use Rattle.layouts.specs.declared.pipeline.ComputePipeline.{ComputePipeline}
 use Rattle.layouts.specs.Owners.{among}
 use Rattle.layouts.specs.Layouts.{group_in}
+use Rattle.layouts.specs.Equal.{same_layout}
 use Rattle.bindings.specs.declared.constants.SpecialConstants.{SpecialConstants as Constants}
 use Rattle.bindings.specs.declared.binding.BufferBinding.{BufferBinding}
 use Rattle.bindings.specs.Constants.{constants}
 use Rattle.bindings.specs.Bindings.{address_of, size_of}
 use Rattle.passes.specs.declared.element.RootElement.{RootElement}
 use Rattle.passes.specs.declared.element.RootElement.TheVariants.{Immediates}
-use Rattle.passes.specs.Account.{Bound, Views, Pipeline, Account, with_roots, filled, filled_from, switched, switch_touches, is_current, overwritten, with_immediates, group_elements, zeros, constants_at, constants_touch, current_special, own_slot, emptied, untouched, with_vertices, rebased, strided, restrides, views_untouched, unfit}
+use Rattle.passes.specs.Account.{Bound, Views, Pipeline, Account, filled, filled_from, switched, switch_touches, is_current, overwritten, with_immediates, group_elements, zeros, constants_at, constants_touch, current_special, own_slot, emptied, untouched, rebased, strided, restrides, views_untouched, unfit}
 use Rattle.passes.specs.Flush.{flushed}
 
 -- ---- setting
@@ -233,41 +233,6 @@ fault_at n None = None
 fault_at n (Some i) = Some (fault n i)
 
 -- ---- equal layouts
-
-abbrev pub same_flag : Bool → Bool → Bool
-same_flag true c = c
-same_flag false c = not c
-
-abbrev pub same_specials : Option PipelineLayoutSpecialConstants → Option PipelineLayoutSpecialConstants → Bool
-same_specials None None = true
-same_specials None (Some d) = false
-same_specials (Some c) None = false
-same_specials (Some c) (Some d) = c.root_index == d.root_index && same_flag c.own_signature d.own_signature
-
-abbrev pub same_immediates : Option ImmediatesInfo → Option ImmediatesInfo → Bool
-same_immediates None None = true
-same_immediates None (Some j) = false
-same_immediates (Some i) None = false
-same_immediates (Some i) (Some j) = i.root_index == j.root_index && i.size == j.size
-
-abbrev pub same_group : Option BindGroupInfo → Option BindGroupInfo → Bool
-same_group None None = true
-same_group None (Some h) = false
-same_group (Some g) None = false
-same_group (Some g) (Some h) = g.base_root_index == h.base_root_index && (same_flag g.table h.table && g.uniforms == h.uniforms)
-
-abbrev pub same_groups : List (Option BindGroupInfo) → List (Option BindGroupInfo) → Bool
-same_groups [] [] = true
-same_groups [] (h ∷ hs) = false
-same_groups (g ∷ gs) [] = false
-same_groups (g ∷ gs) (h ∷ hs) = same_group g h && same_groups gs hs
-
--- two layouts have the same parts
-abbrev pub same_layout : PipelineLayout → PipelineLayout → Bool
-same_layout l m =
-    (l.signature == m.signature) && (l.total_root_elements == m.total_root_elements
-    && (same_specials l.special_constants m.special_constants && (same_immediates l.immediates_info m.immediates_info
-    && same_groups l.bind_group_infos m.bind_group_infos)))
 
 -- a layout with the current signature is the current one
 abbrev pub agrees : PipelineLayout → Option PipelineLayout → Bool

@@ -3,7 +3,7 @@ use Rattle.std.specs.Prelude.{◌≡◌, ℕ, zero, suc, ◌+◌, Bool, cond, Li
 use Rattle.command_list.specs.declared.command.Half.{Half}
 use Rattle.command_list.specs.declared.command.Half.TheVariants.{Graphics, Compute}
 use Rattle.command_list.specs.Commands.{Command, IASetVertexBuffers, SetRoot32BitConstant, SetRootDescriptorTable, SetRootConstantBufferView}
-use Rattle.device.specs.Devices.{Slot, unset, table, view, words, VertexView}
+use Rattle.device.specs.Devices.{Slot, table, view, words, VertexView}
 use Rattle.layouts.specs.declared.info.ImmediatesInfo.{ImmediatesInfo}
 use Rattle.layouts.specs.declared.layout.PipelineLayout.{PipelineLayout}
 use Rattle.bindings.specs.declared.constants.SpecialConstants.{SpecialConstants as Constants}
