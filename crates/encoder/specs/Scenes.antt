@@ -1,5 +1,5 @@
 -- What each call of an encoder does.
-use Rattle.std.specs.Prelude.{◌≡◌, ℕ, Bool, true, false, cond, List, [], ◌∷◌, ◌++◌, Some, None, Ok, Err, Option, Result, nat_le}
+use Rattle.std.specs.Prelude.{◌≡◌, ℕ, Bool, true, false, cond, List, [], Some, None, Option, nat_le}
 use Rattle.command_list.specs.declared.command.Half.{Half}
 use Rattle.command_list.specs.declared.command.Half.TheVariants.{Graphics, Compute}
 use Rattle.command_list.specs.declared.fault.Fault.{Fault}
@@ -9,7 +9,7 @@ use Rattle.device.specs.Devices.{start}
 use Rattle.device.specs.Meaning.{Meaning, Recorded, sizes, cleared}
 use Rattle.passes.specs.Account.{Account, opened}
 use Rattle.passes.specs.Calls.{SetCall, set_bind_group, set_immediates, set_render_pipeline, set_compute_pipeline, set_vertex_buffer, DrawCall, draw, draw_indirect, dispatch, dispatch_indirect, after_set, set_records, asks_set, after_draw, draw_records, asks_draw, fault}
-use Rattle.encoder.specs.Opening.{Opening, render_pass, compute_pass, half_of, label_of, is_labelled, opening_records, ending_records, asks_opening, QuietCall, transition, set_viewport, set_scissor_rect, quiet_records, asks_quiet}
+use Rattle.encoder.specs.Opening.{Opening, half_of, label_of, is_labelled, opening_records, ending_records, asks_opening, QuietCall, transition, set_viewport, set_scissor_rect, quiet_records, asks_quiet}
 
 -- the calls, by their kinds
 pub data Call : Type 0 where

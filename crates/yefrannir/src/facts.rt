@@ -1,6 +1,5 @@
 // Single facts: the state of a usage, the record of a label, the owners of a layout's slots.
-use crate::refusal;
-use anyhow::anyhow;
+use crate::failure::{Failure, refusal};
 use command_list::fault::{Fault, Number};
 use device::recorder::Recorder;
 use labels::label::Label;
@@ -52,7 +51,7 @@ const STATES: [&str; 12] = [
 ];
 
 // The names of the bits of a number, lowest first, or what it is with none.
-fn print_names(rt: &impl Print, number: u32, names: &[&str], none: &str) -> anyhow::Result<()> {
+fn print_names(rt: &impl Print, number: u32, names: &[&str], none: &str) -> Result<(), Failure> {
     if number == 0 {
         print!(rt; " {none}")?;
     }
@@ -70,11 +69,11 @@ fn print_names(rt: &impl Print, number: u32, names: &[&str], none: &str) -> anyh
 
 // A usage whose flags are known, and the state that it comes to.
 fn print_usage<U: Uses>(
-    rt: &(impl Print + Alloc),
+    rt: &(impl Print + AllocGlobal),
     usage: U,
     bits: u32,
     names: &[&str],
-) -> anyhow::Result<()>
+) -> Result<(), Failure>
 where
     U: Drop,
 {
@@ -94,17 +93,17 @@ where
 
 // The state of a usage.
 pub(crate) fn print_state(
-    rt: &(impl Print + Alloc),
+    rt: &(impl Print + AllocGlobal),
     kind: &str,
     usage: &str,
-) -> anyhow::Result<()> {
+) -> Result<(), Failure> {
     let Ok(bits) = usage.parse::<u32>() else {
-        return Err(anyhow!("a usage is a whole number"));
+        return Err(Failure::Said("a usage is a whole number"));
     };
     match kind {
         "buffer" => print_usage(rt, BufferUses { bits }, bits, &BUFFER_FLAGS),
         "texture" => print_usage(rt, TextureUses { bits }, bits, &TEXTURE_FLAGS),
-        _ => Err(anyhow!("the state of what? give 'buffer' or 'texture' and a usage")),
+        _ => Err(Failure::Said("the state of what? give 'buffer' or 'texture' and a usage")),
     }
 }
 
@@ -117,7 +116,7 @@ fn label_list(label: &str, bytes: &mut [u8]) -> Result<usize, Fault> {
 }
 
 // The record of a label.
-pub(crate) fn print_label(rt: &(impl Print + Alloc), label: &str) -> anyhow::Result<()> {
+pub(crate) fn print_label(rt: &(impl Print + AllocGlobal), label: &str) -> Result<(), Failure> {
     let mut bytes = [0u8; 1024];
     let end = match label_list(label, &mut bytes) {
         Ok(end) => end,
@@ -135,7 +134,7 @@ pub(crate) fn print_label(rt: &(impl Print + Alloc), label: &str) -> anyhow::Res
 }
 
 // The owners of a layout's slots.
-pub(crate) fn print_layout(rt: &impl Print, layout: &PipelineLayout) -> anyhow::Result<()> {
+pub(crate) fn print_layout(rt: &impl Print, layout: &PipelineLayout) -> Result<(), Failure> {
     let signature = layout.signature();
     print!(rt; "layout of signature {signature}")?;
     for slot in 0..layout.total() {

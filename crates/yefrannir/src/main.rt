@@ -1,13 +1,12 @@
 // Shows command lists: the embedded plot, or a list file.
 #![tactic(auto)]
 
-
 mod facts;
+mod failure;
 mod show;
 mod shown;
 mod timing;
 
-use anyhow::anyhow;
 use board::board::Board;
 use command_list::code::Code;
 use command_list::command::Command;
@@ -17,11 +16,13 @@ use command_list::record::Record;
 use device::ration::Ration;
 use device::recorder::Recorder;
 use facts::{print_label, print_layout, print_state};
+use failure::{Failure, refusal};
 use list_bytes::{ListBytes, measured};
 use list_file::{check, records_are_known, rewrite, write};
 use list_play::board_of;
-use show::{Operands, Told};
+use show::Operands;
 use shown::{print_play, same};
+use std::process::ExitCode;
 use std::rt::Files;
 use std::{env, fs};
 use timing::{time_list, time_sample};
@@ -47,15 +48,6 @@ A list that is refused is told with a number and a place: docs/REFUSALS.md has t
 // The bytes that the plot may take.
 const ALLOWANCE: usize = 1000;
 
-// A refusal as an error that is told in a line.
-pub(crate) fn refusal(rt: &impl Alloc, what: &str, fault: Fault) -> anyhow::Error {
-    let told = Told(fault);
-    match format!(in rt.alloc(); "{what} is refused: {told}") {
-        Ok(text) => text.into(),
-        Err(e) => e.into(),
-    }
-}
-
 // The name of a record by the byte of its code.
 fn record_name(byte: u8) -> &'static str {
     match Code::named(byte) {
@@ -65,7 +57,7 @@ fn record_name(byte: u8) -> &'static str {
 }
 
 // A record on a line.
-fn print_record(rt: &impl Print, at: usize, byte: u8, record: Record) -> anyhow::Result<()> {
+fn print_record(rt: &impl Print, at: usize, byte: u8, record: Record) -> Result<(), Failure> {
     let name = record_name(byte);
     let operands = Operands(record);
     println!(rt; "{at:>6} {byte:>3} {name}{operands}")?;
@@ -73,7 +65,7 @@ fn print_record(rt: &impl Print, at: usize, byte: u8, record: Record) -> anyhow:
 }
 
 // The records of a file, up to the first that is refused.
-fn print_list(rt: &(impl Print + Alloc), what: &str, file: &[u8]) -> anyhow::Result<()> {
+fn print_list(rt: &(impl Print + AllocGlobal), what: &str, file: &[u8]) -> Result<(), Failure> {
     let mut reader = match Reader::open(file) {
         Ok(reader) => reader,
         Err(fault) => return Err(refusal(rt, what, fault)),
@@ -142,7 +134,7 @@ fn boards_agree(list: &[u8]) -> Result<bool, Fault> {
 }
 
 // The plot's list: printed, rewritten, and played on a board.
-fn show_plot(rt: &(impl Print + Alloc), list: &[u8]) -> anyhow::Result<()> {
+fn show_plot(rt: &(impl Print + AllocGlobal), list: &[u8]) -> Result<(), Failure> {
     print_list(rt, "the plot", list)?;
     let end = list.len();
     let count = match check(list) {
@@ -151,7 +143,7 @@ fn show_plot(rt: &(impl Print + Alloc), list: &[u8]) -> anyhow::Result<()> {
     };
     match bytes_agree(list) {
         Ok(true) => {}
-        Ok(false) => return Err(anyhow!("the rewritten plot has other bytes")),
+        Ok(false) => return Err(Failure::Said("the rewritten plot has other bytes")),
         Err(fault) => return Err(refusal(rt, "the plot", fault)),
     }
     println!(rt; "{count} records in {end} bytes; rewritten, the bytes are equal")?;
@@ -160,13 +152,13 @@ fn show_plot(rt: &(impl Print + Alloc), list: &[u8]) -> anyhow::Result<()> {
             println!(rt; "played on a board, its state and the list's agree")?;
             Ok(())
         }
-        Ok(false) => Err(anyhow!("the board's state and the list's differ")),
+        Ok(false) => Err(Failure::Said("the board's state and the list's differ")),
         Err(fault) => Err(refusal(rt, "the plot", fault)),
     }
 }
 
 // The plot's layout.
-fn show_layout(rt: &(impl Print + Alloc)) -> anyhow::Result<()> {
+fn show_layout(rt: &(impl Print + AllocGlobal)) -> Result<(), Failure> {
     match season_plot::layout() {
         Ok(layout) => print_layout(rt, &layout),
         Err(fault) => Err(refusal(rt, "the plot's layout", fault)),
@@ -174,7 +166,7 @@ fn show_layout(rt: &(impl Print + Alloc)) -> anyhow::Result<()> {
 }
 
 // The embedded plot.
-fn run_plot(rt: &(impl Print + Alloc)) -> anyhow::Result<()> {
+fn run_plot(rt: &(impl Print + AllocGlobal)) -> Result<(), Failure> {
     records_are_known();
     let mut bytes = [0u8; 1024];
     let end = match plot_list(&mut bytes) {
@@ -183,17 +175,17 @@ fn run_plot(rt: &(impl Print + Alloc)) -> anyhow::Result<()> {
     };
     match bytes.get(0..end) {
         Some(list) => show_plot(rt, list),
-        None => Err(anyhow!("the plot passes its bytes")),
+        None => Err(Failure::Said("the plot passes its bytes")),
     }
 }
 
 // The bytes of a file, or an error that names it.
-fn read_file<R: Files + Alloc>(rt: &R, path: &str) -> anyhow::Result<Vec<u8, R::A>> {
+fn read_file(rt: &(impl Files + AllocGlobal), path: &str) -> Result<Vec<u8>, Failure> {
     match fs::read(rt, path) {
         Ok(bytes) => Ok(bytes),
         Err(e) => {
             let text = format!(in rt.alloc(); "cannot read {path}: {e}")?;
-            Err(text.into())
+            Err(Failure::Told(text))
         }
     }
 }
@@ -215,7 +207,7 @@ enum Asked {
 const USAGE: &str = "bad arguments: 'yefrannir help' says what there is";
 
 // `show` and what follows it.
-fn asked_show(first: Option<String>, second: Option<String>) -> anyhow::Result<Asked> {
+fn asked_show(first: Option<String>, second: Option<String>) -> Result<Asked, Failure> {
     match (first, second) {
         (Some(path), None) => {
             if path.as_str() == "--time" {
@@ -228,40 +220,40 @@ fn asked_show(first: Option<String>, second: Option<String>) -> anyhow::Result<A
             if flag.as_str() == "--time" {
                 Ok(Asked::TimeFile(path))
             } else {
-                Err(USAGE.into())
+                Err(Failure::Said(USAGE))
             }
         }
-        (None, _) => Err(anyhow!("show what? give a list file, or --time")),
+        (None, _) => Err(Failure::Said("show what? give a list file, or --time")),
     }
 }
 
 // `play` and what follows it.
-fn asked_play(first: Option<String>, second: Option<String>) -> anyhow::Result<Asked> {
+fn asked_play(first: Option<String>, second: Option<String>) -> Result<Asked, Failure> {
     match (first, second) {
         (Some(path), None) => Ok(Asked::Play(path)),
-        (None, _) => Err(anyhow!("play what? give a list file")),
-        _ => Err(USAGE.into()),
+        (None, _) => Err(Failure::Said("play what? give a list file")),
+        _ => Err(Failure::Said(USAGE)),
     }
 }
 
 // `state` and what follows it.
-fn asked_state(first: Option<String>, second: Option<String>) -> anyhow::Result<Asked> {
+fn asked_state(first: Option<String>, second: Option<String>) -> Result<Asked, Failure> {
     match (first, second) {
         (Some(kind), Some(usage)) => Ok(Asked::State(kind, usage)),
-        _ => Err(anyhow!("the state of what? give 'buffer' or 'texture' and a usage")),
+        _ => Err(Failure::Said("the state of what? give 'buffer' or 'texture' and a usage")),
     }
 }
 
 // `label` and what follows it.
-fn asked_label(first: Option<String>, second: Option<String>) -> anyhow::Result<Asked> {
+fn asked_label(first: Option<String>, second: Option<String>) -> Result<Asked, Failure> {
     match (first, second) {
         (Some(text), None) => Ok(Asked::Label(text)),
-        (None, _) => Err(anyhow!("which label? give a text")),
-        _ => Err(USAGE.into()),
+        (None, _) => Err(Failure::Said("which label? give a text")),
+        _ => Err(Failure::Said(USAGE)),
     }
 }
 
-fn read_args(rt: &HostRuntime) -> anyhow::Result<Asked> {
+fn read_args(rt: &HostRuntime) -> Result<Asked, Failure> {
     let mut args = env::args(rt)?;
     let _ = args.next();
     let Some(verb) = args.next() else {
@@ -270,7 +262,7 @@ fn read_args(rt: &HostRuntime) -> anyhow::Result<Asked> {
     let first = args.next();
     let second = args.next();
     if args.next().is_some() {
-        return Err(USAGE.into());
+        return Err(Failure::Said(USAGE));
     }
     match verb.as_str() {
         "show" => asked_show(first, second),
@@ -279,11 +271,11 @@ fn read_args(rt: &HostRuntime) -> anyhow::Result<Asked> {
         "label" => asked_label(first, second),
         "layout" if first.is_none() => Ok(Asked::Layout),
         "help" | "--help" | "-h" if first.is_none() => Ok(Asked::Help),
-        _ => Err(USAGE.into()),
+        _ => Err(Failure::Said(USAGE)),
     }
 }
 
-fn run(rt: &HostRuntime) -> anyhow::Result<()> {
+fn run(rt: &HostRuntime) -> Result<(), Failure> {
     match read_args(rt)? {
         Asked::Plot => run_plot(rt),
         Asked::Help => {
@@ -309,12 +301,12 @@ fn run(rt: &HostRuntime) -> anyhow::Result<()> {
     }
 }
 
-fn main(rt: HostRuntime) -> anyhow::Result<()> {
+fn main(rt: HostRuntime) -> ExitCode {
     match run(&rt) {
-        Ok(()) => Ok(()),
-        Err(e) => {
-            eprintln!(rt; "yefrannir: {e}")?;
-            Err(e)
+        Ok(()) => ExitCode::SUCCESS,
+        Err(failure) => {
+            let _ = eprintln!(rt; "yefrannir: {failure}");
+            ExitCode::FAILURE
         }
     }
 }

@@ -1,5 +1,6 @@
 // What a board shows, in print.
-use crate::{print_record, refusal, show};
+use crate::failure::{Failure, refusal};
+use crate::{print_record, show};
 use board::board::Board;
 use board::state::{RootSlot, View};
 use command_list::code::Code;
@@ -50,7 +51,7 @@ fn drawn_half(record: Record) -> Option<Half> {
 }
 
 // What a draw or a dispatch finds on the device.
-fn print_found(rt: &impl Print, board: &Board, half: Half) -> anyhow::Result<()> {
+fn print_found(rt: &impl Print, board: &Board, half: Half) -> Result<(), Failure> {
     let name = half_name(half);
     let pipeline = board.pipeline();
     let signature = board.signature(half);
@@ -79,7 +80,7 @@ fn print_found(rt: &impl Print, board: &Board, half: Half) -> anyhow::Result<()>
 }
 
 // How many commands of each code there were, and how often each slot was written.
-fn print_counts(rt: &impl Print, board: &Board) -> anyhow::Result<()> {
+fn print_counts(rt: &impl Print, board: &Board) -> Result<(), Failure> {
     println!(rt; "counts")?;
     for byte in 0..32 {
         if let Some(code) = Code::named(byte) {
@@ -111,7 +112,11 @@ fn print_counts(rt: &impl Print, board: &Board) -> anyhow::Result<()> {
 
 // Plays a list on a board, up to the first record that is refused: each draw with what it finds,
 // and, of a list that is taken whole, the counts.
-pub(crate) fn print_play(rt: &(impl Print + Alloc), what: &str, file: &[u8]) -> anyhow::Result<()> {
+pub(crate) fn print_play(
+    rt: &(impl Print + AllocGlobal),
+    what: &str,
+    file: &[u8],
+) -> Result<(), Failure> {
     let mut reader = match Reader::open(file) {
         Ok(reader) => reader,
         Err(fault) => return Err(refusal(rt, what, fault)),

@@ -1,5 +1,5 @@
 // How long writing, reading and rewriting a list takes.
-use crate::refusal;
+use crate::failure::{Failure, refusal};
 use command_list::reader::MOST_BYTES;
 use list_file::{check, rewrite};
 use list_writer::writer::{append, begin};
@@ -21,17 +21,17 @@ fn fill(bytes: &mut [u8]) -> usize {
     end
 }
 
-fn told(rt: &impl Print, what: &str, bytes: usize, nanos: u128) -> anyhow::Result<()> {
+fn told(rt: &impl Print, what: &str, bytes: usize, nanos: u128) -> Result<(), Failure> {
     println!(rt; "{what}: {bytes} bytes in {nanos} ns")?;
     Ok(())
 }
 
 // Reads a list once and rewrites it once, with the time of each.
 pub(crate) fn time_list(
-    rt: &(impl Print + Clock + Alloc),
+    rt: &(impl Print + Clock + AllocGlobal),
     what: &str,
     list: &[u8],
-) -> anyhow::Result<()> {
+) -> Result<(), Failure> {
     let start = Instant::now(rt)?;
     let count = match check(list) {
         Ok(count) => count,
@@ -50,7 +50,7 @@ pub(crate) fn time_list(
 }
 
 // The same of a list of 64 KiB of mixed records, which is written first.
-pub(crate) fn time_sample(rt: &(impl Print + Clock + Alloc)) -> anyhow::Result<()> {
+pub(crate) fn time_sample(rt: &(impl Print + Clock + AllocGlobal)) -> Result<(), Failure> {
     let mut bytes = [0u8; MOST_BYTES];
     let start = Instant::now(rt)?;
     let end = fill(&mut bytes);
