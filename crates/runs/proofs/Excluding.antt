@@ -2,7 +2,6 @@
 use Rattle.std.proofs.Common.{◌≡◌, ℕ, ◌+◌, ◌≤◌, true, List, [], ◌∷◌, None, sym, refl, ap, ◌∙◌, subst, ⊎_elim, arith}
 use Rattle.std.proofs.lemmas.Bool.{cases_eq, true≢false, false≢true}
 use Rattle.command_list.specs.Commands.{Command, code_of, byte_of}
-use Rattle.command_list.specs.declared.fault.Number.TheVariants as number
 use Rattle.device.specs.Devices.{Device, more, step, play}
 use Rattle.device.specs.Meaning.{Meaning}
 use Rattle.device.proofs.Steps.{step_counts}

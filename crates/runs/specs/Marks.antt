@@ -1,15 +1,14 @@
 -- Whole runs of an encoder, and what holds between the marks of each pass.
-use Rattle.std.specs.Prelude.{◌≡◌, ℕ, ◌<◌, Bool, true, false, cond, ◌&&◌, ◌⊎◌, List, [], ◌∷◌, ◌++◌, Some, None, Option, ◌≢◌}
+use Rattle.std.specs.Prelude.{◌≡◌, ℕ, ◌<◌, Bool, true, false, cond, ◌&&◌, ◌⊎◌, List, [], ◌∷◌, ◌++◌, Some, ◌≢◌}
 use Rattle.command_list.specs.declared.command.Half.{Half}
 use Rattle.command_list.specs.declared.command.Half.TheVariants.{Graphics, Compute}
 use Rattle.command_list.specs.Commands.{Command}
 use Rattle.device.specs.Devices.{Device, step, play}
-use Rattle.device.specs.Meaning.{Meaning}
 use Rattle.layouts.specs.declared.layout.PipelineLayout.{PipelineLayout}
-use Rattle.passes.specs.Account.{Bound, Pipeline, Account}
+use Rattle.passes.specs.Account.{Pipeline, Account}
 use Rattle.passes.specs.Flush.{nothing, value_at, Holds}
 use Rattle.passes.specs.Calls.{DrawCall, prepared, own_constants, wiped_slot, own_command, set_touches, set_touches_vertex, draw_touches}
-use Rattle.encoder.specs.Scenes.{Call, begin_encoding, end_encoding, discard_encoding, opening, ending, quiet, set, drawing, Stage, idle, account_of, records, Answer, taken, is_taken, Scene, Does}
+use Rattle.encoder.specs.Scenes.{Call, begin_encoding, end_encoding, discard_encoding, opening, ending, quiet, set, drawing, idle, account_of, records, Answer, taken, is_taken, Scene, Does}
 
 -- one call of a run: what it was offered to, its answer, and what it left
 pub record Moment : Type 0 where
