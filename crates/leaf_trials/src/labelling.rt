@@ -74,6 +74,6 @@ fn a_label_as_a_record(rt: HostRuntime) -> Result<(), Fail> {
     let mut bytes = [0u8; 8];
     let mut list = ListBytes::new(&mut bytes);
     assert!(rt; list.begin_event(label.units()).is_ok());
-    assert!(rt; list.list() == &[1, 0x00, 0x05, 0x01, 0x00, 0xE9, 0x00, 0x00]);
+    assert!(rt; list.list() == [1, 0x00, 0x05, 0x01, 0x00, 0xE9, 0x00, 0x00].as_slice());
     Ok(())
 }

@@ -47,7 +47,7 @@ fn a_pair_is_taken_whole_into_list_bytes(rt: HostRuntime) {
     let mut bytes = [0u8; 28];
     let mut list = ListBytes::new(&mut bytes);
     assert!(rt; pairs_taken(&mut list) == (true, false));
-    assert!(rt; list.list() == &[1, 0, 5, 4, 0, 0, 0, 5, 0, 5, 6, 0, 0, 0, 9]);
+    assert!(rt; list.list() == [1, 0, 5, 4, 0, 0, 0, 5, 0, 5, 6, 0, 0, 0, 9].as_slice());
 }
 
 #[test]
@@ -81,7 +81,7 @@ fn a_list_is_played_whole_or_not_at_all(rt: HostRuntime) -> Result<(), Fail> {
     let mut bytes = [0u8; 15];
     let mut list = ListBytes::new(&mut bytes);
     assert!(rt; play(&mut list, &LIST).is_ok());
-    assert!(rt; list.list() == &LIST);
+    assert!(rt; list.list() == LIST.as_slice());
     match board_of(&LIST) {
         Ok(board) => {
             assert_eq!(rt; board.pipeline(), 9);
