@@ -3,7 +3,7 @@ use Rattle.std.proofs.Common.{◌≡◌, ℕ, zero, suc, ◌+◌, ◌-◌, ◌*�
 use native.Mathlib.Nat.{zero-div}
 use lib.Bits.{bit_and, bit_or, and_high, or_shr, or_step}
 use Rattle.std.proofs.lemmas.Bool.{ne_eqb, cases_Bool, cases_eq, cond-true, cond-false}
-use Rattle.resources.specs.States.{COMMON, digit, has, flag_state, united, buffer_flags, texture_flags}
+use Rattle.resources.specs.States.{common, digit, has, flag_state, united, buffer_flags, texture_flags}
 use Rattle.resources.specs.Usages.{Usage, buffer, texture, state_of, Stated}
 
 -- ---- a digit
@@ -52,15 +52,15 @@ flag_off u k z = ⊎_elim (λ e. let d : digit u k ≡ 1 = grind (arith, e) in l
 flag_brings : (u k x s : ℕ) → digit (flag_state u k x) s ≡ 1 → (has u k ≡ true) × (digit x s ≡ 1)
 flag_brings u k x s e =
     ⊎_elim
-    (λ t. (t, ap (λ (y : ℕ). digit y s) (sym (cond-true (has u k) x COMMON t)) ∙ e))
-    (λ f. absurd (digit_none s (ap (λ (y : ℕ). digit y s) (sym (cond-false (has u k) x COMMON f)) ∙ e)))
+    (λ t. (t, ap (λ (y : ℕ). digit y s) (sym (cond-true (has u k) x common t)) ∙ e))
+    (λ f. absurd (digit_none s (ap (λ (y : ℕ). digit y s) (sym (cond-false (has u k) x common f)) ∙ e)))
     (cases_Bool (has u k))
 
 brings_flag : (u k x s : ℕ) → has u k ≡ true → digit x s ≡ 1 → digit (flag_state u k x) s ≡ 1
-brings_flag u k x s t e = ap (λ (y : ℕ). digit y s) (cond-true (has u k) x COMMON t) ∙ e
+brings_flag u k x s t e = ap (λ (y : ℕ). digit y s) (cond-true (has u k) x common t) ∙ e
 
 pub united_brought : (u k acc : ℕ) (ss : List ℕ) (s : ℕ) → digit (united u k acc ss) s ≡ 1
-    → (digit acc s ≡ 1) ⊎ ((j : ℕ) × (j < length ss) × (has u (k + j) ≡ true) × (digit (get_or ss j COMMON) s ≡ 1))
+    → (digit acc s ≡ 1) ⊎ ((j : ℕ) × (j < length ss) × (has u (k + j) ≡ true) × (digit (get_or ss j common) s ≡ 1))
 united_brought u k acc [] s e = inl e
 united_brought u k acc (x ∷ ss) s e =
     ⊎_elim
@@ -72,7 +72,7 @@ pub united_keeps : (u k acc : ℕ) (ss : List ℕ) (s : ℕ) → digit acc s ≡
 united_keeps u k acc [] s e = e
 united_keeps u k acc (x ∷ ss) s e = united_keeps u (k + 1) (bit_or acc (flag_state u k x)) ss s (one_or acc (flag_state u k x) s (inl e))
 
-pub united_whole : (u k acc : ℕ) (ss : List ℕ) (s j : ℕ) → j < length ss → has u (k + j) ≡ true → digit (get_or ss j COMMON) s ≡ 1 → digit (united u k acc ss) s ≡ 1
+pub united_whole : (u k acc : ℕ) (ss : List ℕ) (s j : ℕ) → j < length ss → has u (k + j) ≡ true → digit (get_or ss j common) s ≡ 1 → digit (united u k acc ss) s ≡ 1
 united_whole u k acc [] s j l t e = absurd (omega arith)
 united_whole u k acc (x ∷ ss) s zero l t e =
     united_keeps u (k + 1) (bit_or acc (flag_state u k x)) ss s (one_or acc (flag_state u k x) s (inr (brings_flag u k x s (ap (has u) (sym (add-zero k)) ∙ t) e)))
@@ -81,12 +81,12 @@ united_whole u k acc (x ∷ ss) s (suc j) l t e =
     (ap (has u) (ap (λ (n : ℕ). n + j) (add-one k) ∙ suc-add k j ∙ sym (add-suc k j)) ∙ t) e
 
 module _ (u : ℕ) (ss : List ℕ) (s : ℕ) where
-  pub all_brought : digit (united u 0 COMMON ss) s ≡ 1 → (j : ℕ) × (j < length ss) × (has u j ≡ true) × (digit (get_or ss j COMMON) s ≡ 1)
+  pub all_brought : digit (united u 0 common ss) s ≡ 1 → (j : ℕ) × (j < length ss) × (has u j ≡ true) × (digit (get_or ss j common) s ≡ 1)
   all_brought e =
-      ⊎_elim (λ p. absurd (digit_none s p)) (λ h. (h.0, h.1, ap (has u) (sym (zero-add h.0)) ∙ h.2, h.3)) (united_brought u 0 COMMON ss s e)
+      ⊎_elim (λ p. absurd (digit_none s p)) (λ h. (h.0, h.1, ap (has u) (sym (zero-add h.0)) ∙ h.2, h.3)) (united_brought u 0 common ss s e)
 
-  pub all_whole : ((j : ℕ) × (j < length ss) × (has u j ≡ true) × (digit (get_or ss j COMMON) s ≡ 1)) → digit (united u 0 COMMON ss) s ≡ 1
-  all_whole h = united_whole u 0 COMMON ss s h.0 h.1 (ap (has u) (zero-add h.0) ∙ h.2) h.3
+  pub all_whole : ((j : ℕ) × (j < length ss) × (has u j ≡ true) × (digit (get_or ss j common) s ≡ 1)) → digit (united u 0 common ss) s ≡ 1
+  all_whole h = united_whole u 0 common ss s h.0 h.1 (ap (has u) (zero-add h.0) ∙ h.2) h.3
 
 pub stated : (u : Usage) (r : ℕ) → r ≡ state_of u → Stated u r
 stated (buffer u) r e = record {

@@ -1,6 +1,6 @@
 -- Usages of buffers and of textures: what Direct3D has them as.
 use Rattle.std.specs.Prelude.{◌≡◌, ℕ, ◌^◌, ◌<◌, Bool, true, ◌||◌, List, length, ◌==◌, nat_lt, slice_index_or}
-use Rattle.resources.specs.States.{COMMON, digit, has, united, buffer_flags, texture_flags}
+use Rattle.resources.specs.States.{common, digit, has, united, buffer_flags, texture_flags}
 
 -- a usage's flags, by the kind of the resource
 pub data Usage : Type 0 where
@@ -23,8 +23,8 @@ known (texture u) = nat_lt u 1024
 
 -- the state of a usage
 abbrev pub state_of : Usage → ℕ
-state_of (buffer u) = united u 0 COMMON (buffer_flags u)
-state_of (texture u) = united u 0 COMMON texture_flags
+state_of (buffer u) = united u 0 common (buffer_flags u)
+state_of (texture u) = united u 0 common texture_flags
 
 -- accesses of this usage, one after the other in one state, have to be put in order: STORAGE_READ_WRITE alone, and for buffers ACCELERATION_STRUCTURE_QUERY alone
 abbrev pub ordered : Usage → Bool
@@ -33,7 +33,7 @@ ordered (texture u) = u == 2 ^ 9
 
 -- some flag of a usage brings the state of value 2 ^ s
 abbrev pub Brings : Usage → ℕ → Type 0
-Brings u s = (k : ℕ) × (k < length (flags_of u)) × (has (bits_of u) k ≡ true) × (digit (slice_index_or (flags_of u) k COMMON) s ≡ 1)
+Brings u s = (k : ℕ) × (k < length (flags_of u)) × (has (bits_of u) k ≡ true) × (digit (slice_index_or (flags_of u) k common) s ≡ 1)
 
 -- a state holds just what the flags bring
 pub record Stated (u : Usage) (state : ℕ) : Type 0 where

@@ -1,6 +1,6 @@
 // Usages turned into Direct3D's states.
 ghost use Rattle.std.specs.Prelude.{◌≡◌, if◌then◌else◌, bit_and, nat_eq};
-ghost use Rattle.resources.specs.States.{has, flag_state, COMMON as NONE, ALL_SHADER_RESOURCE};
+ghost use Rattle.resources.specs.States.{has, flag_state, common, all_shader_resource};
 ghost use Rattle.resources.specs.Usages.{Stated, buffer, texture};
 
 use crate::uses::{BufferUses, TextureUses};
@@ -37,7 +37,7 @@ fn brings(bits: u32, flag: u32, state: u32) -> u32
 
 // Storage that is only read is a shader's resource, unless it is written too.
 fn reads_storage(bits: u32) -> u32
-    ensures { result ≡ flag_state bits 5 (if has bits 6 then NONE else ALL_SHADER_RESOURCE) }
+    ensures { result ≡ flag_state bits 5 (if has bits 6 then common else all_shader_resource) }
 {
     if bits & BufferUses::STORAGE_READ_WRITE != 0 {
         COMMON
