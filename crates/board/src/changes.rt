@@ -14,7 +14,7 @@ const NONE: RootHalf = RootHalf {
 };
 
 // The state that nothing was recorded into.
-pub fn fresh() -> State
+pub(crate) fn fresh() -> State
     ensures { device_of result ≡ start }
 {
     State {
@@ -33,7 +33,7 @@ pub fn fresh() -> State
 }
 
 // One more of a code.
-pub fn count(counts: &mut [u64; 32], i: usize)
+pub(crate) fn count(counts: &mut [u64; 32], i: usize)
     requires within { i < 32 }
     requires room { slice_index counts.old i + 1 < 2 ^ 64 }
     ensures { (λ q. slice_index counts.new q) ≡ more i (λ q. slice_index counts.old q) }
@@ -42,7 +42,7 @@ pub fn count(counts: &mut [u64; 32], i: usize)
 }
 
 // One more write of a vertex slot.
-pub fn count_vertex(counts: &mut [u64; 16], i: usize)
+pub(crate) fn count_vertex(counts: &mut [u64; 16], i: usize)
     requires within { i < 16 }
     requires room { slice_index counts.old i + 1 < 2 ^ 64 }
     ensures { (λ q. slice_index counts.new q) ≡ more i (λ q. slice_index counts.old q) }
@@ -50,7 +50,7 @@ pub fn count_vertex(counts: &mut [u64; 16], i: usize)
     counts[i] += 1;
 }
 
-pub fn attach(vertices: &mut [View; 16], i: usize, view: View)
+pub(crate) fn attach(vertices: &mut [View; 16], i: usize, view: View)
     requires { i < 16 }
     ensures { (λ q. view_of (slice_index_or vertices.new q no_view)) ≡ update (λ q. view_of (slice_index_or vertices.old q no_view)) i (view_of view) }
 {
@@ -111,7 +111,7 @@ fn wipe(half: &mut RootHalf, i: usize)
 }
 
 // The same in a half of the state.
-pub fn sign_half(state: &mut State, half: Half, signature: u32)
+pub(crate) fn sign_half(state: &mut State, half: Half, signature: u32)
     ensures { device_of state.new ≡ on_half half (signed signature) (device_of state.old) }
 {
     match half {
@@ -120,7 +120,7 @@ pub fn sign_half(state: &mut State, half: Half, signature: u32)
     }
 }
 
-pub fn put_half_slot(state: &mut State, half: Half, i: usize, slot: RootSlot)
+pub(crate) fn put_half_slot(state: &mut State, half: Half, i: usize, slot: RootSlot)
     requires within { i < 64 }
     requires room { (halves_of state.old half).writes i + 1 < 2 ^ 64 }
     ensures { device_of state.new ≡ on_half half (written i (slot_of slot)) (device_of state.old) }
@@ -131,7 +131,7 @@ pub fn put_half_slot(state: &mut State, half: Half, i: usize, slot: RootSlot)
     }
 }
 
-pub fn put_half_word(state: &mut State, half: Half, i: usize, w: usize, value: u32)
+pub(crate) fn put_half_word(state: &mut State, half: Half, i: usize, w: usize, value: u32)
     requires slot { i < 64 }
     requires word { w < 64 }
     requires room { (halves_of state.old half).writes i + 1 < 2 ^ 64 }
@@ -143,7 +143,7 @@ pub fn put_half_word(state: &mut State, half: Half, i: usize, w: usize, value: u
     }
 }
 
-pub fn wipe_half(state: &mut State, half: Half, special: Option<u8>)
+pub(crate) fn wipe_half(state: &mut State, half: Half, special: Option<u8>)
     requires { is_special special ≡ true }
     ensures { device_of state.new ≡ on_half half (wiped special) (device_of state.old) }
 {

@@ -85,7 +85,7 @@ fn effect(state: &mut State, fixed: Fixed)
 }
 
 // One more of a code.
-pub fn count_code(state: &mut State, code: Code)
+pub(crate) fn count_code(state: &mut State, code: Code)
     requires { Spare (device_of state.old).counts 1 (2 ^ 64 - 1) }
     ensures { device_of state.new ≡ counted (byte_of code) (device_of state.old) }
 {
@@ -93,7 +93,7 @@ pub fn count_code(state: &mut State, code: Code)
 }
 
 // A command of a fixed width.
-pub fn step(state: &mut State, fixed: Fixed)
+pub(crate) fn step(state: &mut State, fixed: Fixed)
     requires ranged { in_range (fixed_command fixed) ≡ true }
     requires room { Spares (device_of state.old) 1 (2 ^ 64 - 1) }
     ensures { device_of state.new ≡ step_of (fixed_command fixed) (device_of state.old) }
@@ -103,7 +103,7 @@ pub fn step(state: &mut State, fixed: Fixed)
 }
 
 // A record that was read.
-pub fn step_record(state: &mut State, record: Record)
+pub(crate) fn step_record(state: &mut State, record: Record)
     requires ranged { in_range (command_of «record») ≡ true }
     requires room { Spares (device_of state.old) 1 (2 ^ 64 - 1) }
     ensures { device_of state.new ≡ step_of (command_of «record».entry) (device_of state.old) }

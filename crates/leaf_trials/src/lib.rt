@@ -6,6 +6,8 @@ mod edges;
 #[cfg(test)]
 mod labelling;
 #[cfg(test)]
+mod laws;
+#[cfg(test)]
 mod laying;
 #[cfg(test)]
 mod table;

@@ -75,11 +75,11 @@ added_asked c xs ys n m (Err f) h s w a = record {
 }
 
 pub added_sound : (c : Command) (xs ys : List ℕ) (n m : ℕ) (r : Result Unit Fault) → n ≤ length xs → length xs ≤ 65536 → is_whole xs n ≡ ltb 0 (length xs) → Added c xs n r m ys →
-    (m ≤ length ys) × (length ys ≤ 65536) × (is_whole ys m ≡ ltb 0 (length ys))
-added_sound c xs ys n m (Ok u) h s w a = (still_within c xs ys n m w a, still_small c xs ys n m w a s, still_whole c xs ys n m w a)
+    record { within : m ≤ length ys; small : length ys ≤ 65536; whole : is_whole ys m ≡ ltb 0 (length ys) }
+added_sound c xs ys n m (Ok u) h s w a = record { within = still_within c xs ys n m w a; small = still_small c xs ys n m w a s; whole = still_whole c xs ys n m w a }
 added_sound c xs ys n m (Err f) h s w a =
     let e = ap length a.0.same in
-    (omega (arith, a.1), omega arith, (λ i. is_whole (a.0.same i) (a.1 i)) ∙ w ∙ ap (ltb 0) (sym e))
+    record { within = omega (arith, a.1); small = omega arith; whole = (λ i. is_whole (a.0.same i) (a.1 i)) ∙ w ∙ ap (ltb 0) (sym e) }
 
 -- a list file begins with its version, which alone is an empty list file
 version_only : (xs : List ℕ) (n : ℕ) → 0 < n → is_accepted (file (take n xs)) ≡ true → file (take 1 xs) ≡ accepted []

@@ -11,7 +11,7 @@ use Rattle.layouts.specs.declared.pipeline.RenderPipeline.{RenderPipeline}
 use Rattle.layouts.specs.declared.pipeline.ComputePipeline.{ComputePipeline}
 use Rattle.layouts.specs.Layouts.{owner_in, group_in}
 use Rattle.layouts.specs.Equal.{same_layout}
-use Rattle.layouts.proofs.SameLayouts.{same_layout_lem}
+use Rattle.layouts.proofs.SameLayouts.{layout_decides}
 use Rattle.bindings.specs.declared.binding.BufferBinding.{BufferBinding}
 use Rattle.passes.specs.declared.element.RootElement.{RootElement}
 use Rattle.passes.specs.Account.{Account, Pipeline, is_current, fits_owner, unfit}
@@ -41,7 +41,7 @@ pub current_layout : (l : PipelineLayout) (o : Option PipelineLayout) → asks_l
 current_layout l None q e = absurd (false≢true e)
 current_layout l (Some c) q e =
     let all : agrees l (Some c) ≡ true = unless_none (agrees l (Some c)) (fault number.Layout 0) q in
-    ap Some (sym (same_layout_lem l c (sym (cond-true (eqb l.signature c.signature) (same_layout l c) true e) ∙ all)))
+    ap Some (sym ((layout_decides l c).0 (sym (cond-true (eqb l.signature c.signature) (same_layout l c) true e) ∙ all)))
 
 -- ---- set calls
 

@@ -8,4 +8,6 @@ mod long_lists;
 #[cfg(test)]
 mod plain;
 #[cfg(test)]
+mod plot_parts;
+#[cfg(test)]
 mod recorders;

@@ -1,6 +1,7 @@
 use Rattle.std.proofs.Common.{refl, ap, arith, Decides, ◌≡◌}
 use Rattle.layouts.proofs.Alike.{layouts_equal}
-use Rattle.layouts.proofs.SameLayouts.{decides_same}
+use Rattle.std.specs.Bool.{one_answer}
+use Rattle.layouts.proofs.SameLayouts.{layout_decides}
 use Rattle.layouts.proofs.layout.PipelineLayoutPartialEq.eq.Goals as goal
 
 pub returns : goal.returns
@@ -9,4 +10,4 @@ returns c =
       (λ e. layouts_equal c.args.self.now c.args.other.now (omega arith) (omega arith) (c.if-not-equal_special.ensures.0 refl) (c.if-not-equal_immediates.ensures.0 refl) (c.equal_groups.ensures.0 e)),
       (λ e. c.equal_groups.ensures.1 (ap (λ l. l.bind_group_infos) e)),
     ) in
-    record { test = decides_same c.args.self.now c.args.other.now _ d; equal = d }
+    record { test = one_answer _ _ d (layout_decides c.args.self.now c.args.other.now); equal = d }
