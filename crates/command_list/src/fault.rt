@@ -48,6 +48,16 @@ impl Number {
     {
         self as u8
     }
+
+    // A refusal of this kind at a place.
+    pub fn at(self, place: usize) -> Fault
+        ensures { (result.number ≡ self) × (result.place ≡ place) }
+    {
+        Fault {
+            number: self,
+            place,
+        }
+    }
 }
 
 // A refusal: why, and the place that the number speaks of.
