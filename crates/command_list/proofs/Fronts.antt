@@ -1,5 +1,5 @@
 -- The front of what is left of a file.
-use Rattle.std.proofs.Common.{◌≡◌, ℕ, zero, suc, ◌+◌, ◌-◌, ◌*◌, ◌<◌, ◌≤◌, true, false, ◌||◌, eqb, ltb, ◌⊎◌, List, [], ◌∷◌, length, get_or, take, drop, Option, sym, refl, ap, ◌∙◌, ⊎_elim, arith}
+use Rattle.std.proofs.Common.{◌≡◌, ℕ, zero, suc, ◌+◌, ◌-◌, ◌*◌, ◌<◌, ◌≤◌, true, false, ◌||◌, eqb, ltb, ◌⊎◌, List, [], ◌∷◌, length, get_or, take, drop, Option, sym, refl, ap, ◌∙◌, subst, ⊎_elim, arith}
 use Rattle.std.proofs.lemmas.List.{take_rest}
 use Rattle.std.proofs.lemmas.Bool.{cond-true, cond-false, eq-eqb, ne_eqb, lt-ltb, le-ltb, or_left, or_right, or_from, or_parts, and_left, and_right, lt-leb, eqb-false, ltb-false, cases_Bool}
 use Rattle.command_list.specs.declared.code.Code.{Code}
@@ -43,12 +43,18 @@ front_whole (a ∷ b ∷ k ∷ bs) l p h =
     cond-false _ _ _ (or_from _ _ (ne_eqb (a * 256 + b) 0 (λ z. omega arith)) (le-ltb (length bs) (a * 256 + b - 1) (omega arith)))
 
 -- the operands as the checker has them, cut from what follows the code
-pub front_read : {m : Decoded} (o : Option Code) (bs : List ℕ) → o ≡ code_named (get_or bs 2 0) → m ≡ decode_named o (take (said bs - 1 - 0) (take (length bs - 3) (drop 3 bs)))
+read_said : {m : Decoded} (o : Option Code) (bs : List ℕ) → o ≡ code_named (get_or bs 2 0) → m ≡ decode_named o (take (said bs - 1 - 0) (take (length bs - 3) (drop 3 bs)))
     → 3 ≤ length bs → 0 < said bs → said bs - 1 ≤ length bs - 3 → sized m (2 + said bs) ≡ front bs
-front_read o bs q e l p h =
+read_said o bs q e l p h =
     let cut : take (said bs - 1 - 0) (take (length bs - 3) (drop 3 bs)) ≡ take (said bs - 1) (drop 3 bs) =
     ap (take (said bs - 1 - 0)) (take_rest bs 3) ∙ ap (λ n. take n (drop 3 bs)) (omega arith) in
     ap (λ x. sized x (2 + said bs)) (e ∙ ap (decode_named o) cut ∙ ap (λ k. decode_named k (take (said bs - 1) (drop 3 bs))) q) ∙ sym (front_whole bs l p h)
+
+pub front_read : {m : Decoded} (o : Option Code) (bs : List ℕ) (n : ℕ) → n ≡ said bs → o ≡ code_named (get_or bs 2 0) → m ≡ decode_named o (take (n - 1 - 0) (take (length bs - 3) (drop 3 bs)))
+    → 3 ≤ length bs → 0 < n → n - 1 ≤ length bs - 3 → sized m (2 + n) ≡ front bs
+front_read {m} o bs n s =
+    subst (λ k. o ≡ code_named (get_or bs 2 0) → m ≡ decode_named o (take (k - 1 - 0) (take (length bs - 3) (drop 3 bs))) → 3 ≤ length bs → 0 < k → k - 1 ≤ length bs - 3 → sized m (2 + k) ≡ front bs)
+    (sym s) (read_said o bs)
 
 first_same : {c d : Command} {m n : ℕ} → first c m ≡ first d n → m ≡ n
 first_same e = cc

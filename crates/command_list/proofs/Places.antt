@@ -1,46 +1,52 @@
--- The number that bytes at a place write, byte by byte.
-use Rattle.std.proofs.Common.{◌≡◌, ℕ, zero, suc, ◌+◌, ◌*◌, ◌≤◌, List, [], ◌∷◌, length, get_or, take, drop, sym, refl, ap, ◌∙◌, add-zero, add_assoc, arith}
+-- The number that bytes at a place write.
+use Rattle.std.proofs.Common.{◌≡◌, ℕ, ◌+◌, ◌≤◌, List, [], ◌∷◌, length, get_or, take, drop, w16, w32, w64, ap, ◌∙◌, arith, length-drop}
+use Rattle.std.specs.Int.{from_be_bytes}
 use Rattle.std.specs.Int.Digits.{number_from_digits}
-use Rattle.std.proofs.lemmas.List.{drop_more}
+use Rattle.std.proofs.lemmas.List.{drop_more, length-take-le}
 use Rattle.command_list.specs.Numbers.{number_at}
 
--- w bytes from a place on, each by its own place
-places : ℕ → ℕ → ℕ → List ℕ → List ℕ
-places zero at k bs = []
-places (suc w) at k bs = get_or bs (at + k) 0 ∷ places w at (k + 1) bs
-
-take_places : (w at k : ℕ) (bs : List ℕ) → at + k + w ≤ length bs → take w (drop (at + k) bs) ≡ places w at k bs
-unfolding places
-take_places zero at k bs h = refl
-take_places (suc w) at k bs h =
-    ap (take (suc w)) (drop_more bs (at + k) 0 (omega arith))
-    ∙ ap (λ l. get_or bs (at + k) 0 ∷ take w l) (ap (λ n. drop n bs) (add_assoc at k 1))
-    ∙ ap (λ l. get_or bs (at + k) 0 ∷ l) (take_places w at (k + 1) bs (omega arith))
-
-at_places : (w at : ℕ) (bs : List ℕ) → at + w ≤ length bs → number_at w at bs ≡ number_from_digits 256 (places w at 0 bs)
-unfolding number_at
-at_places w at bs h = ap (λ n. number_from_digits 256 (take w (drop n bs))) (sym (add-zero at)) ∙ ap (number_from_digits 256) (take_places w at 0 bs (omega arith))
-
-here : (at : ℕ) (bs : List ℕ) → get_or bs (at + 0) 0 ≡ get_or bs at 0
-here at bs = ap (λ n. get_or bs n 0) (add-zero at)
-
 pub number_1 : (at : ℕ) (bs : List ℕ) → at + 1 ≤ length bs → number_at 1 at bs ≡ get_or bs at 0
-unfolding places
-number_1 at bs h = at_places 1 at bs h ∙ omega (arith, here at bs)
+unfolding number_at
+number_1 at bs h = ap (λ l. number_from_digits 256 (take 1 l)) (drop_more bs at 0 (omega arith)) ∙ omega arith
 
-pub number_2 : (at : ℕ) (bs : List ℕ) → at + 2 ≤ length bs → number_at 2 at bs ≡ get_or bs at 0 * 256 + get_or bs (at + 1) 0
-unfolding places
-number_2 at bs h = at_places 2 at bs h ∙ omega (arith, here at bs)
+two : (ds : List ℕ) → length ds ≡ 2 → from_be_bytes w16 ds ≡ number_from_digits 256 ds
+two (a ∷ b ∷ []) e = omega arith
+two [] e = absurd (omega arith)
+two (a ∷ []) e = absurd (omega arith)
+two (a ∷ b ∷ c ∷ ds) e = absurd (omega arith)
 
-pub number_4 : (at : ℕ) (bs : List ℕ) → at + 4 ≤ length bs → number_at 4 at bs ≡ get_or bs at 0 * 16777216 + get_or bs (at + 1) 0 * 65536 + get_or bs (at + 2) 0 * 256 + get_or bs (at + 3) 0
-unfolding places
-number_4 at bs h = at_places 4 at bs h ∙ omega (arith, here at bs)
+four : (ds : List ℕ) → length ds ≡ 4 → from_be_bytes w32 ds ≡ number_from_digits 256 ds
+four (a ∷ b ∷ c ∷ d ∷ []) e = omega arith
+four [] e = absurd (omega arith)
+four (a ∷ []) e = absurd (omega arith)
+four (a ∷ b ∷ []) e = absurd (omega arith)
+four (a ∷ b ∷ c ∷ []) e = absurd (omega arith)
+four (a ∷ b ∷ c ∷ d ∷ f ∷ ds) e = absurd (omega arith)
 
--- eight bytes are twice four
-pub number_8 : (at : ℕ) (bs : List ℕ) → at + 8 ≤ length bs → number_at 8 at bs ≡ number_at 4 at bs * 4294967296 + number_at 4 (at + 4) bs
-unfolding places
-number_8 at bs h =
-    let e : get_or bs (at + 4 + 1) 0 ≡ get_or bs (at + 5) 0 = ap (λ n. get_or bs n 0) (omega arith) in
-    let f : get_or bs (at + 4 + 2) 0 ≡ get_or bs (at + 6) 0 = ap (λ n. get_or bs n 0) (omega arith) in
-    let g : get_or bs (at + 4 + 3) 0 ≡ get_or bs (at + 7) 0 = ap (λ n. get_or bs n 0) (omega arith) in
-    at_places 8 at bs h ∙ omega (arith, here at bs, number_4 at bs (omega arith), number_4 (at + 4) bs (omega arith))
+eight : (ds : List ℕ) → length ds ≡ 8 → from_be_bytes w64 ds ≡ number_from_digits 256 ds
+eight (a ∷ b ∷ c ∷ d ∷ f ∷ g ∷ h ∷ i ∷ []) e = omega arith
+eight [] e = absurd (omega arith)
+eight (a ∷ []) e = absurd (omega arith)
+eight (a ∷ b ∷ []) e = absurd (omega arith)
+eight (a ∷ b ∷ c ∷ []) e = absurd (omega arith)
+eight (a ∷ b ∷ c ∷ d ∷ []) e = absurd (omega arith)
+eight (a ∷ b ∷ c ∷ d ∷ f ∷ []) e = absurd (omega arith)
+eight (a ∷ b ∷ c ∷ d ∷ f ∷ g ∷ []) e = absurd (omega arith)
+eight (a ∷ b ∷ c ∷ d ∷ f ∷ g ∷ h ∷ []) e = absurd (omega arith)
+eight (a ∷ b ∷ c ∷ d ∷ f ∷ g ∷ h ∷ i ∷ j ∷ ds) e = absurd (omega arith)
+
+-- a part of this width is as long
+long_part : (w at : ℕ) (bs : List ℕ) → at + w ≤ length bs → length (take w (drop at bs)) ≡ w
+long_part w at bs h = length-take-le w (drop at bs) (simp length-drop (omega arith))
+
+pub number_2 : (at : ℕ) (bs ds : List ℕ) → at + 2 ≤ length bs → ds ≡ take 2 (drop at bs) → from_be_bytes w16 ds ≡ number_at 2 at bs
+unfolding number_at
+number_2 at bs ds h e = ap (from_be_bytes w16) e ∙ two (take 2 (drop at bs)) (long_part 2 at bs h)
+
+pub number_4 : (at : ℕ) (bs ds : List ℕ) → at + 4 ≤ length bs → ds ≡ take 4 (drop at bs) → from_be_bytes w32 ds ≡ number_at 4 at bs
+unfolding number_at
+number_4 at bs ds h e = ap (from_be_bytes w32) e ∙ four (take 4 (drop at bs)) (long_part 4 at bs h)
+
+pub number_8 : (at : ℕ) (bs ds : List ℕ) → at + 8 ≤ length bs → ds ≡ take 8 (drop at bs) → from_be_bytes w64 ds ≡ number_at 8 at bs
+unfolding number_at
+number_8 at bs ds h e = ap (from_be_bytes w64) e ∙ eight (take 8 (drop at bs)) (long_part 8 at bs h)

@@ -1,11 +1,10 @@
 -- Numbers of equal widths, one behind the other.
-use Rattle.std.proofs.Common.{◌≡◌, ℕ, zero, suc, ◌+◌, ◌-◌, ◌*◌, ◌/◌, ◌%◌, ◌<◌, ◌≤◌, Bool, true, false, cond, ◌&&◌, eqb, leb, ◌⊎◌, List, [], ◌∷◌, ◌++◌, length, get_or, take, drop, is_some, Some, None, Option, unwrap_or, sym, refl, ap, ◌∙◌, ap₂, ⊎_elim, add-zero, add_assoc, suc-mul, mul-zero, zero-add, zero-mul, mul-suc, arith, length-drop}
+use Rattle.std.proofs.Common.{◌≡◌, ℕ, zero, suc, ◌+◌, ◌-◌, ◌*◌, ◌/◌, ◌%◌, ◌<◌, ◌≤◌, Bool, cond, ◌&&◌, eqb, leb, List, [], ◌∷◌, ◌++◌, length, get_or, take, drop, is_some, Some, None, Option, unwrap_or, sym, refl, ap, ◌∙◌, ap₂, add-zero, add_assoc, suc-mul, zero-add, zero-mul, arith, length-drop}
 use native.Mathlib.Nat.{mul-div_right, mul-mod_right}
-use Rattle.std.specs.List.{slice_get}
+use Rattle.std.specs.List.{list_all, range_with_len}
 use Rattle.std.specs.Int.Digits.{number_from_digits}
 use Rattle.std.proofs.lemmas.List.{drop-drop, drop-take, take-take, length-take-le}
-use Rattle.std.proofs.lemmas.Option.{slice_get_past}
-use Rattle.std.proofs.lemmas.Bool.{cond-true, cond-false, eq-eqb, ne_eqb, lt-ltb, and_from, false≢true}
+use Rattle.std.proofs.lemmas.Bool.{cond-true, eq-eqb, lt-ltb, and_from}
 use Rattle.command_list.specs.declared.command.Barrier.{Barrier}
 use Rattle.command_list.specs.declared.command.BarrierType.{BarrierType}
 use Rattle.command_list.specs.declared.code.Code.TheVariants as code
@@ -13,17 +12,8 @@ use Rattle.command_list.specs.Numbers.{number_at, numbers}
 use Rattle.command_list.specs.Commands.{BeginEvent, OMSetRenderTargets, ResourceBarrier, ends_with_zero}
 use Rattle.command_list.specs.Decoding.{sum, repeated, type_of, barriers, then, takes, wrong, checked, decode}
 use Rattle.command_list.proofs.Places.{number_1}
-use Rattle.command_list.specs.Seen.{every, entry_at, entry_numbers, entries_of}
-
-pub none_some : {A : Type 0} {a : A} → None ≡ Some a → ⊥
-none_some e = false≢true (ap is_some e)
-
-pub some_same : {A : Type 0} {x y : A} → Some x ≡ Some y → x ≡ y
-some_same p = cc
-
-pub then_is : {A B : Type 0} (o : Option A) (f : A → Option B) (b : B) → then o f ≡ Some b → (a : A) × (o ≡ Some a) × (f a ≡ Some b)
-then_is None f b e = absurd (none_some e)
-then_is (Some a) f b e = (a, refl, e)
+use Rattle.command_list.specs.RowLaws.{length_every, five, count_barriers}
+use Rattle.command_list.specs.Seen.{every, entry_numbers, entries_of}
 
 -- from a place on is as from the start of what follows the place
 pub numbers_shift : (ws : List ℕ) (k at : ℕ) (bs : List ℕ) → numbers ws (k + at) bs ≡ numbers ws at (drop k bs)
@@ -32,17 +22,6 @@ numbers_shift [] k at bs = refl
 numbers_shift (w ∷ ws) k at bs =
     ap₂ (λ x l. x ∷ l) (ap (λ l. number_at w 0 l) (sym (drop-drop at k bs)))
     (ap (λ n. numbers ws n bs) (add_assoc k at w) ∙ numbers_shift ws k (at + w) bs)
-
-pub length_numbers : (ws : List ℕ) (at : ℕ) (bs : List ℕ) → length (numbers ws at bs) ≡ length ws
-length_numbers [] at bs = refl
-length_numbers (w ∷ ws) at bs = ap suc (length_numbers ws (at + w) bs)
-
-pub length_repeated : (n w : ℕ) → length (repeated n (w ∷ [])) ≡ n
-length_repeated zero w = refl
-length_repeated (suc n) w = ap suc (length_repeated n w)
-
-pub length_every : (w : ℕ) (bs : List ℕ) → length (every w bs) ≡ length bs / w
-length_every w bs = length_numbers (repeated (length bs / w) (w ∷ [])) 0 bs ∙ length_repeated (length bs / w) w
 
 -- the last of some units
 ends_at : (n at : ℕ) (bs : List ℕ) → ends_with_zero (numbers (repeated (suc n) (2 ∷ [])) at bs) ≡ eqb (number_at 2 (at + 2 * n) bs) 0
@@ -80,52 +59,22 @@ then_some None p f = refl
 then_some (Some k) None f = refl
 then_some (Some k) (Some es) f = refl
 
-abbrev five : List ℕ
-five = 1 ∷ 4 ∷ 4 ∷ 4 ∷ 4 ∷ []
+-- whether the type of an entry is known
+abbrev pub known_at : List ℕ → ℕ → Bool
+known_at bs i = is_some (type_of (get_or bs (17 * i) 0))
 
--- whether all entries from a place on have a type that is known
-pub known_from : ℕ → List ℕ → Bool
-known_from at bs = is_some (barriers (numbers (repeated ((length bs - at) / 17) five) at bs))
+-- the types of all entries from a place on
+known_from : (n i : ℕ) (bs : List ℕ) → 17 * (i + n) ≤ length bs → list_all (known_at bs) (range_with_len i n) ≡ is_some (barriers (numbers (repeated n five) (17 * i) bs))
+known_from zero i bs h = refl
+known_from (suc n) i bs h =
+    let rest : List ℕ = numbers (repeated n five) (17 * i + 1 + 4 + 4 + 4 + 4) bs in
+    let far : 17 * (i + 1) ≡ 17 * i + 1 + 4 + 4 + 4 + 4 = omega arith in
+    ap (λ t. known_at bs i && t) (known_from n (i + 1) bs (omega arith) ∙ ap (λ k. is_some (barriers (numbers (repeated n five) k bs))) far)
+    ∙ ap (λ t. is_some (type_of t) && is_some (barriers rest)) (sym (number_1 (17 * i) bs (omega arith)))
+    ∙ sym (then_some (type_of (number_at 1 (17 * i) bs)) (barriers rest) _)
 
-pub known_more : (at : ℕ) (bs : List ℕ) → at < length bs → length bs % 17 ≡ 0 → at % 17 ≡ 0 → known_from at bs ≡ (is_some (type_of (get_or bs at 0)) && known_from (at + 17) bs)
-unfolding known_from
-known_more at bs l m n =
-    let e : (length bs - at) / 17 ≡ suc ((length bs - (at + 17)) / 17) = omega arith in
-    let rest : List ℕ = numbers (repeated ((length bs - (at + 17)) / 17) five) (at + 17) bs in
-    let far : at + 1 + 4 + 4 + 4 + 4 ≡ at + 17 = omega arith in
-    ap (λ k. is_some (barriers (numbers (repeated k five) at bs))) e
-    ∙ ap (λ k. is_some (barriers (number_at 1 at bs ∷ number_at 4 (at + 1) bs ∷ number_at 4 (at + 1 + 4) bs ∷ number_at 4 (at + 1 + 4 + 4) bs ∷ number_at 4 (at + 1 + 4 + 4 + 4) bs ∷ numbers (repeated ((length bs - (at + 17)) / 17) five) k bs))) far
-    ∙ then_some (type_of (number_at 1 at bs)) (barriers rest) _
-    ∙ ap (λ t. is_some (type_of t) && is_some (barriers rest)) (number_1 at bs (omega arith))
-
-pub known_end : (at : ℕ) (bs : List ℕ) → length bs ≤ at → known_from at bs ≡ true
-unfolding known_from
-known_end at bs l = let e : (length bs - at) / 17 ≡ 0 = omega arith in ap (λ k. is_some (barriers (numbers (repeated k five) at bs))) e
-
-pub known_start : (bs : List ℕ) → known_from 0 bs ≡ is_some (barriers (entry_numbers bs))
-unfolding known_from
-known_start bs = ap (λ k. is_some (barriers (numbers (repeated k five) 0 bs))) (omega arith)
-
-type_known : (t : ℕ) → (t ≡ 0) ⊎ (t ≡ 2) → is_some (type_of t) ≡ true
-type_known t w = ⊎_elim (λ e. ap (λ k. is_some (type_of k)) e) (λ e. ap (λ k. is_some (type_of k)) e) w
-
-type_unknown : (t : ℕ) → (t ≡ 0 → ⊥) → (t ≡ 2 → ⊥) → is_some (type_of t) ≡ false
-type_unknown t p q = ap is_some (cond-false _ _ _ (ne_eqb t 0 p) ∙ cond-false _ _ _ (ne_eqb t 2 q))
-
-pub known_pass : (at : ℕ) (bs : List ℕ) → at < length bs → length bs % 17 ≡ 0 → at % 17 ≡ 0 → (get_or bs at 0 ≡ 0) ⊎ (get_or bs at 0 ≡ 2) → known_from (at + 17) bs ≡ known_from at bs
-known_pass at bs l m n w = sym (known_more at bs l m n ∙ ap (λ t. t && known_from (at + 17) bs) (type_known _ w))
-
-pub known_fail : (at : ℕ) (bs : List ℕ) → at < length bs → length bs % 17 ≡ 0 → at % 17 ≡ 0 → (get_or bs at 0 ≡ 0 → ⊥) → (get_or bs at 0 ≡ 2 → ⊥) → false ≡ known_from at bs
-known_fail at bs l m n p q = sym (known_more at bs l m n ∙ ap (λ t. t && known_from (at + 17) bs) (type_unknown _ p q))
-
--- as many barriers as entries
-pub count_barriers : (n at : ℕ) (bs : List ℕ) (es : List Barrier) → barriers (numbers (repeated n five) at bs) ≡ Some es → length es ≡ n
-count_barriers zero at bs es e = ap length (some_same (sym e))
-count_barriers (suc n) at bs es e =
-    let a = then_is (type_of (number_at 1 at bs)) _ es e in
-    let b = then_is (barriers (numbers (repeated n five) (at + 1 + 4 + 4 + 4 + 4) bs)) _ es a.2 in
-    let same = some_same b.2 in
-    sym (ap length same) ∙ ap suc (count_barriers n (at + 1 + 4 + 4 + 4 + 4) bs b.0 b.1)
+pub known_all : (bs : List ℕ) → list_all (known_at bs) (range_with_len 0 (length bs / 17)) ≡ is_some (barriers (entry_numbers bs))
+known_all bs = known_from (length bs / 17) 0 bs (omega arith)
 
 taken_barriers : (o : Option (List Barrier)) → ((es : List Barrier) → o ≡ Some es → 0 < length es)
     → checked (then o (λ es. Some (ResourceBarrier es))) ≡ cond (is_some o) (takes (ResourceBarrier (unwrap_or o []))) (wrong 25)
@@ -136,44 +85,6 @@ pub decode_barriers : (bs : List ℕ) → 0 < length bs → length bs % 17 ≡ 0
 decode_barriers bs h e =
     cond-true _ _ _ (and_from _ _ (lt-ltb 0 (length bs) h) (eq-eqb (length bs % 17) 0 e))
     ∙ taken_barriers (barriers (entry_numbers bs)) (λ es s. let n = count_barriers (length bs / 17) 0 bs es s in omega arith)
-
--- one of some numbers of equal widths
-nth_run : (w n i at : ℕ) (bs : List ℕ) → i < n → slice_get (numbers (repeated n (w ∷ [])) at bs) i ≡ Some (number_at w (at + w * i) bs)
-nth_run w zero i at bs h = absurd (omega arith)
-nth_run w (suc n) zero at bs h = ap (λ k. Some (number_at w k bs)) (let z = mul-zero w in omega arith)
-nth_run w (suc n) (suc i) at bs h = nth_run w n i (at + w) bs (omega arith) ∙ ap (λ k. Some (number_at w k bs)) (let m = mul-suc w i in omega arith)
-
-pub nth_every : (w i : ℕ) (bs : List ℕ) → i < length bs / w → Some (number_at w (w * i) bs) ≡ slice_get (every w bs) i
-nth_every w i bs h = sym (nth_run w (length bs / w) i 0 bs h ∙ ap (λ k. Some (number_at w k bs)) (omega arith))
-
-pub past_every : (w i : ℕ) (bs : List ℕ) → length bs / w ≤ i → None ≡ slice_get (every w bs) i
-past_every w i bs h = sym (slice_get_past (every w bs) i (let l = length_every w bs in omega arith))
-
--- one of some entries
-nth_entries : (n i at : ℕ) (bs : List ℕ) (es : List Barrier) → i < n → barriers (numbers (repeated n five) at bs) ≡ Some es → entry_at (at + 17 * i) bs ≡ slice_get es i
-nth_entries zero i at bs es h e = absurd (omega arith)
-nth_entries (suc n) zero at bs es h e =
-    let a = then_is (type_of (number_at 1 at bs)) _ es e in
-    let b = then_is (barriers (numbers (repeated n five) (at + 1 + 4 + 4 + 4 + 4) bs)) _ es a.2 in
-    let p5 : number_at 4 (at + 1 + 4) bs ≡ number_at 4 (at + 5) bs = ap (λ k. number_at 4 k bs) (omega arith) in
-    let p9 : number_at 4 (at + 1 + 4 + 4) bs ≡ number_at 4 (at + 9) bs = ap (λ k. number_at 4 k bs) (omega arith) in
-    let p13 : number_at 4 (at + 1 + 4 + 4 + 4) bs ≡ number_at 4 (at + 13) bs = ap (λ k. number_at 4 k bs) (omega arith) in
-    ap (λ k. entry_at k bs) (omega arith)
-    ∙ ap (λ o. then o (λ k. Some (record { kind = k; resource = number_at 4 (at + 1) bs; subresource = number_at 4 (at + 5) bs; before = number_at 4 (at + 9) bs; after = number_at 4 (at + 13) bs }))) a.1
-    ∙ (λ i. Some (record { kind = a.0; resource = number_at 4 (at + 1) bs; subresource = sym p5 i; before = sym p9 i; after = sym p13 i }))
-    ∙ ap (λ l. slice_get l 0) (some_same b.2)
-nth_entries (suc n) (suc i) at bs es h e =
-    let a = then_is (type_of (number_at 1 at bs)) _ es e in
-    let b = then_is (barriers (numbers (repeated n five) (at + 1 + 4 + 4 + 4 + 4) bs)) _ es a.2 in
-    ap (λ k. entry_at k bs) (omega arith)
-    ∙ nth_entries n i (at + 1 + 4 + 4 + 4 + 4) bs b.0 (omega arith) b.1
-    ∙ ap (λ l. slice_get l (suc i)) (some_same b.2)
-
-pub nth_entry : (i : ℕ) (bs : List ℕ) (es : List Barrier) → i < length bs / 17 → barriers (entry_numbers bs) ≡ Some es → entry_at (17 * i) bs ≡ slice_get es i
-nth_entry i bs es h e = ap (λ k. entry_at k bs) (omega arith) ∙ nth_entries (length bs / 17) i 0 bs es h e
-
-pub past_entry : (i : ℕ) (bs : List ℕ) (es : List Barrier) → length bs / 17 ≤ i → barriers (entry_numbers bs) ≡ Some es → None ≡ slice_get es i
-past_entry i bs es h e = sym (slice_get_past es i (let l = count_barriers (length bs / 17) 0 bs es e in omega arith))
 
 pub sum_repeated : (n : ℕ) (ws : List ℕ) → sum (repeated n ws) ≡ n * sum ws
 sum_repeated zero ws = sym (zero-mul (sum ws))

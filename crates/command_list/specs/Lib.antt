@@ -3,3 +3,4 @@ pub mod Commands
 pub mod Decoding
 pub mod Files
 pub mod Seen
+pub mod RowLaws

@@ -1,19 +1,21 @@
 -- What the program's own values stand for.
 use Rattle.std.specs.Prelude.{◌≡◌, ℕ, ◌+◌, ◌/◌, List, [], ◌∷◌, length, drop, Some, None, Ok, Err, Option, Result, slice_index}
 use Rattle.std.specs.Option.{unwrap_or}
+use Rattle.std.specs.Borrow.{Bor}
 use Rattle.command_list.specs.declared.fault.Fault.{Fault}
 use Rattle.command_list.specs.declared.fault.Number.{Number}
 use Rattle.command_list.specs.declared.fault.Number.TheVariants as number
 use Rattle.command_list.specs.declared.command.Barrier.{Barrier}
 use Rattle.command_list.specs.declared.command.Fixed.{Fixed}
 use Rattle.command_list.specs.declared.command.Fixed.TheVariants as fixed
-use Rattle.command_list.specs.declared.command.Command.{Command as Given}
-use Rattle.command_list.specs.declared.command.Command.TheVariants as given
-use Rattle.command_list.specs.declared.record.Record.{Record}
-use Rattle.command_list.specs.declared.record.Record.TheVariants as record'
+use Rattle.command_list.specs.declared.command.Call.{Call}
+use Rattle.command_list.specs.declared.command.Call.TheVariants as call
+use Rattle.command_list.specs.declared.record.Rows.{Rows}
+use Rattle.command_list.specs.declared.code.Code.{Code}
+use Rattle.command_list.specs.declared.command.BarrierType.{BarrierType}
 use Rattle.command_list.specs.Numbers.{number_at, numbers}
 use Rattle.command_list.specs.Commands.{Command, BeginEvent, EndEvent, SetDescriptorHeaps, SetRootSignature, SetPipelineState, IASetPrimitiveTopology, IASetVertexBuffers, SetRoot32BitConstant, SetRootDescriptorTable, SetRootConstantBufferView, OMSetRenderTargets, ClearRenderTargetView, RSSetViewports, RSSetScissorRects, ResourceBarrier, DrawInstanced, Dispatch, ExecuteIndirect}
-use Rattle.command_list.specs.Decoding.{repeated, type_of, then, barriers, Decoded, takes, wrong, Front, ended, first, broken, front}
+use Rattle.command_list.specs.Decoding.{code_named, repeated, type_of, then, barriers, Decoded, takes, wrong, Front, ended, first, broken, front}
 
 -- the number of each refusal
 abbrev pub number_of : Number → ℕ
@@ -52,12 +54,19 @@ fixed_command (fixed.DrawInstanced a b c d) = DrawInstanced a b c d
 fixed_command (fixed.Dispatch x y z) = Dispatch x y z
 fixed_command (fixed.ExecuteIndirect h s n b o) = ExecuteIndirect h s n b o
 
--- a command that is given to be written
+-- the command of a call, where it is told what its lists hold
+abbrev pub call_command : {U H E : Type 0} → (U → List ℕ) → (H → List ℕ) → (E → List Barrier) → Call U H E → Command
+call_command units handles entries (call.BeginEvent us) = BeginEvent (units us)
+call_command units handles entries (call.OMSetRenderTargets hs) = OMSetRenderTargets (handles hs)
+call_command units handles entries (call.ResourceBarrier es) = ResourceBarrier (entries es)
+call_command units handles entries (call.Fixed f) = fixed_command f
+
+-- a command that is given to be written: its lists are slices
+abbrev pub Given : Type 0
+Given = Call (Bor (List ℕ)) (Bor (List ℕ)) (Bor (List Barrier))
+
 abbrev pub given_command : Given → Command
-given_command (given.BeginEvent us) = BeginEvent us.now
-given_command (given.OMSetRenderTargets hs) = OMSetRenderTargets hs.now
-given_command (given.ResourceBarrier es) = ResourceBarrier es.now
-given_command (given.Fixed f) = fixed_command f
+given_command = call_command (λ us. us.now) (λ hs. hs.now) (λ es. es.now)
 
 -- the numbers of one width that bytes hold
 abbrev pub every : ℕ → List ℕ → List ℕ
@@ -77,11 +86,22 @@ entry_at at bs =
 abbrev pub entries_of : List ℕ → List Barrier
 entries_of bs = unwrap_or (barriers (entry_numbers bs)) []
 
+-- a command that was read: its lists are rows of the file's bytes
+abbrev pub Record : Type 0
+Record = Call (Rows ℕ) (Rows ℕ) (Rows Barrier)
+
 abbrev pub command_of : Record → Command
-command_of (record'.BeginEvent us) = BeginEvent (every 2 us.bytes.now)
-command_of (record'.OMSetRenderTargets hs) = OMSetRenderTargets (every 8 hs.bytes.now)
-command_of (record'.ResourceBarrier es) = ResourceBarrier (entries_of es.bytes.now)
-command_of (record'.Fixed f) = fixed_command f
+command_of = call_command (λ us. every 2 us.bytes.now) (λ hs. every 8 hs.bytes.now) (λ es. entries_of es.bytes.now)
+
+-- the code that a byte names, or a refusal
+abbrev pub Names : ℕ → Result Code Number → Type 0
+Names b (Ok k) = code_named b ≡ Some k
+Names b (Err e) = (code_named b ≡ None) × (e ≡ number.Unknown)
+
+-- the type that a byte names, or a refusal
+abbrev pub Types : ℕ → Result BarrierType Number → Type 0
+Types b (Ok k) = type_of b ≡ Some k
+Types b (Err e) = (type_of b ≡ None) × (e ≡ number.Operand)
 
 abbrev pub seen : Result Record Number → Decoded
 seen (Ok r) = takes (command_of r)

@@ -1,9 +1,11 @@
 // The codes of the records.
 ghost use Rattle.std.specs.Prelude.{◌≡◌};
 ghost use Rattle.command_list.specs.Commands.{byte_of};
-ghost use Rattle.command_list.specs.Decoding.{code_named};
+ghost use Rattle.command_list.specs.Seen.{Names};
 
-#[derive(Clone, Copy)]
+use crate::fault::Number;
+
+#[derive(Clone, Copy, PartialEq, Eq, Debug)]
 pub enum Code {
     BeginEvent = 1,
     EndEvent = 2,
@@ -29,42 +31,46 @@ pub enum Code {
     ExecuteIndirect = 31,
 }
 
-impl Code {
-    // The code that a byte names, if it names one.
-    pub fn named(byte: u8) -> Option<Code>
-        ensures { result ≡ code_named byte }
-    {
+// The code that a byte names, if it names one.
+impl TryFrom<u8> for Code {
+    type Error = Number;
+
+    ghost try_from_gives = { Names };
+
+    fn try_from(byte: u8) -> Result<Code, Number> {
         match byte {
-            1 => Some(Code::BeginEvent),
-            2 => Some(Code::EndEvent),
-            3 => Some(Code::SetDescriptorHeaps),
-            4 => Some(Code::SetGraphicsRootSignature),
-            5 => Some(Code::SetComputeRootSignature),
-            6 => Some(Code::SetPipelineState),
-            7 => Some(Code::IASetPrimitiveTopology),
-            8 => Some(Code::IASetVertexBuffers),
-            10 => Some(Code::SetGraphicsRoot32BitConstant),
-            11 => Some(Code::SetComputeRoot32BitConstant),
-            12 => Some(Code::SetGraphicsRootDescriptorTable),
-            13 => Some(Code::SetComputeRootDescriptorTable),
-            14 => Some(Code::SetGraphicsRootConstantBufferView),
-            15 => Some(Code::SetComputeRootConstantBufferView),
-            16 => Some(Code::OMSetRenderTargets),
-            17 => Some(Code::ClearRenderTargetView),
-            20 => Some(Code::RSSetViewports),
-            21 => Some(Code::RSSetScissorRects),
-            22 => Some(Code::ResourceBarrier),
-            28 => Some(Code::DrawInstanced),
-            30 => Some(Code::Dispatch),
-            31 => Some(Code::ExecuteIndirect),
-            _ => None,
+            1 => Ok(Code::BeginEvent),
+            2 => Ok(Code::EndEvent),
+            3 => Ok(Code::SetDescriptorHeaps),
+            4 => Ok(Code::SetGraphicsRootSignature),
+            5 => Ok(Code::SetComputeRootSignature),
+            6 => Ok(Code::SetPipelineState),
+            7 => Ok(Code::IASetPrimitiveTopology),
+            8 => Ok(Code::IASetVertexBuffers),
+            10 => Ok(Code::SetGraphicsRoot32BitConstant),
+            11 => Ok(Code::SetComputeRoot32BitConstant),
+            12 => Ok(Code::SetGraphicsRootDescriptorTable),
+            13 => Ok(Code::SetComputeRootDescriptorTable),
+            14 => Ok(Code::SetGraphicsRootConstantBufferView),
+            15 => Ok(Code::SetComputeRootConstantBufferView),
+            16 => Ok(Code::OMSetRenderTargets),
+            17 => Ok(Code::ClearRenderTargetView),
+            20 => Ok(Code::RSSetViewports),
+            21 => Ok(Code::RSSetScissorRects),
+            22 => Ok(Code::ResourceBarrier),
+            28 => Ok(Code::DrawInstanced),
+            30 => Ok(Code::Dispatch),
+            31 => Ok(Code::ExecuteIndirect),
+            _ => Err(Number::Unknown),
         }
     }
+}
 
-    // The byte of a code.
-    pub fn byte(self) -> u8
-        ensures { result ≡ byte_of self }
-    {
-        self as u8
+// The byte of a code.
+impl From<Code> for u8 {
+    ghost from_gives = { λ code byte. byte ≡ byte_of code };
+
+    fn from(code: Code) -> u8 {
+        code as u8
     }
 }

@@ -1,9 +1,11 @@
 // The commands as they are written: one Direct3D 12 call each.
 ghost use Rattle.std.specs.Prelude.{◌≡◌};
-ghost use Rattle.command_list.specs.Commands.{code_of, of_half};
-ghost use Rattle.command_list.specs.Seen.{fixed_command};
+ghost use Rattle.command_list.specs.Commands.{code_of, of_half, type_byte};
+ghost use Rattle.command_list.specs.Seen.{Types, fixed_command};
 
 use crate::code::Code;
+use crate::fault::Number;
+use std::fmt;
 
 // The two halves of a command list's state.
 #[derive(Clone, Copy, PartialEq, Eq)]
@@ -12,10 +14,11 @@ pub enum Half {
     Compute,
 }
 
+// Direct3D's numbers of the types that entries of a barrier have here.
 #[derive(Clone, Copy, PartialEq, Eq)]
 pub enum BarrierType {
-    Transition,
-    Uav,
+    Transition = 0,
+    Uav = 2,
 }
 
 // An entry of a resource barrier.
@@ -29,7 +32,7 @@ pub struct Barrier {
 }
 
 // A command whose operands have a fixed width.
-#[derive(Clone, Copy)]
+#[derive(Clone, Copy, PartialEq, Eq)]
 pub enum Fixed {
     EndEvent,
     SetDescriptorHeaps(bool),
@@ -93,13 +96,49 @@ pub enum Fixed {
     },
 }
 
-// A command: of a fixed width, or with a list among its operands.
+// A command: of a fixed width, or with a list of units, handles or entries among its operands.
 #[derive(Clone, Copy)]
-pub enum Command<'a> {
-    BeginEvent(&'a [u16]),
-    OMSetRenderTargets(&'a [u64]),
-    ResourceBarrier(&'a [Barrier]),
+pub enum Call<U, H, E> {
+    BeginEvent(U),
+    OMSetRenderTargets(H),
+    ResourceBarrier(E),
     Fixed(Fixed),
+}
+
+// A command that is given to be written: its lists are slices.
+pub type Command<'a> = Call<&'a [u16], &'a [u64], &'a [Barrier]>;
+
+impl fmt::Display for Half {
+    fn fmt<W: fmt::Write>(&self, f: &mut fmt::Formatter<W>) -> fmt::Result {
+        f.write_str(match self {
+            Half::Graphics => "graphics",
+            Half::Compute => "compute",
+        })
+    }
+}
+
+// The type that a byte names, if it names one.
+impl TryFrom<u8> for BarrierType {
+    type Error = Number;
+
+    ghost try_from_gives = { Types };
+
+    fn try_from(byte: u8) -> Result<BarrierType, Number> {
+        match byte {
+            0 => Ok(BarrierType::Transition),
+            2 => Ok(BarrierType::Uav),
+            _ => Err(Number::Operand),
+        }
+    }
+}
+
+// The byte of a type.
+impl From<BarrierType> for u8 {
+    ghost from_gives = { λ kind byte. byte ≡ type_byte kind };
+
+    fn from(kind: BarrierType) -> u8 {
+        kind as u8
+    }
 }
 
 impl Half {

@@ -2,6 +2,9 @@
 ghost use Rattle.std.specs.Prelude.{◌≡◌};
 ghost use Rattle.command_list.specs.Seen.{number_of};
 
+use std::error::Error;
+use std::fmt;
+
 // Why a call was refused. Each case has a number, by which hosts know it.
 #[derive(Clone, Copy, PartialEq, Eq, Debug)]
 pub enum Number {
@@ -42,13 +45,6 @@ pub enum Number {
 }
 
 impl Number {
-    // The number that stands for this case outside the program.
-    pub fn value(self) -> u8
-        ensures { result ≡ number_of self }
-    {
-        self as u8
-    }
-
     // A refusal of this kind at a place.
     pub fn at(self, place: usize) -> Fault
         ensures { (result.number ≡ self) × (result.place ≡ place) }
@@ -60,12 +56,57 @@ impl Number {
     }
 }
 
+// The number that stands for a case outside the program.
+impl From<Number> for u8 {
+    ghost from_gives = { λ number value. value ≡ number_of number };
+
+    fn from(number: Number) -> u8 {
+        number as u8
+    }
+}
+
+// What a number says.
+impl fmt::Display for Number {
+    fn fmt<W: fmt::Write>(&self, f: &mut fmt::Formatter<W>) -> fmt::Result {
+        f.write_str(match self {
+            Number::Range => "something is out of its range",
+            Number::Text => "a label is not UTF-8",
+            Number::Absent => "an entry, a handle or a resource is not there",
+            Number::Count => "there are too many or too few buffers or offsets",
+            Number::Extent => "an address, a size or an end is too large",
+            Number::Layout => "another layout has the current signature",
+            Number::Pipeline => "no pipeline of the current signature is set",
+            Number::Unfit => "a root slot is not set as its layout says",
+            Number::Scratch => "the scratch does not take the barriers",
+            Number::Full => "there is not enough space",
+            Number::Slots => "a layout's slots do not fit",
+            Number::Owners => "a layout's slot has no owner, or two",
+            Number::Version => "it is empty, longer than 65536 bytes, or not of version 1",
+            Number::Cut => "a record is cut short or of length 0",
+            Number::Unknown => "a record's code is not known",
+            Number::Length => "a record's length is wrong for its code",
+            Number::Operand => "an operand is out of its range",
+        })
+    }
+}
+
 // A refusal: why, and the place that the number speaks of.
 #[derive(Clone, Copy, PartialEq, Eq, Debug)]
 pub struct Fault {
     pub number: Number,
     pub place: usize,
 }
+
+// A refusal in a line.
+impl fmt::Display for Fault {
+    fn fmt<W: fmt::Write>(&self, f: &mut fmt::Formatter<W>) -> fmt::Result {
+        let Fault { number, place } = self;
+        let value = u8::from(*number);
+        write!(f, "number {value}, place {place}: {number}")
+    }
+}
+
+impl Error for Fault {}
 
 // What a writer answers to a command that it does not take.
 pub const FULL: Fault = Fault {

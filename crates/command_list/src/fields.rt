@@ -1,42 +1,192 @@
 // Operand readers: what the operand bytes of each code say.
-ghost use Rattle.std.specs.Prelude.{◌≡◌, ℕ, ◌+◌, ◌%◌, ◌≤◌, true, false, length, is_some, Some, None, MatchResult, ◌≢◌};
+ghost use Rattle.std.specs.Prelude.{◌≡◌, ℕ, ◌+◌, ◌*◌, ◌/◌, ◌<◌, ◌≤◌, true, false, List, length, take, drop, Option, Some, None, MatchResult, ◌≢◌, ◌⊎◌};
+ghost use Rattle.std.specs.List.{slice_get};
 ghost use Rattle.command_list.specs.declared.code.Code.TheVariants as code;
 ghost use Rattle.command_list.specs.Numbers.{number_at};
 ghost use Rattle.command_list.specs.Commands.{of_half, is_special};
-ghost use Rattle.command_list.specs.Decoding.{decode, flag_of, kind_of, special_of, type_of, barriers};
-ghost use Rattle.command_list.specs.Seen.{seen, entry_at, entry_numbers};
+ghost use Rattle.command_list.specs.Decoding.{decode, flag_of, kind_of, special_of, barriers};
+ghost use Rattle.command_list.specs.Seen.{seen, every, entry_at, entry_numbers};
 
 use crate::code::Code;
 use crate::command::{Barrier, BarrierType, Fixed, Half};
 use crate::fault::Number;
 use crate::record::{Entries, Handles, Record, Units};
 
-pub fn get_u8(bytes: &[u8], at: usize) -> u8
-    requires { at + 1 ≤ length bytes.now }
-    ensures { result ≡ number_at 1 at bytes.now }
+// So many bytes from a place on.
+fn part<const N: usize>(bytes: &[u8], at: usize) -> [u8; N]
+    requires { at + N ≤ length bytes.now }
+    ensures { result ≡ take N (drop at bytes.now) }
 {
-    bytes[at]
+    let mut part = [0; N];
+    part.copy_from_slice(&bytes[at..at + N]);
+    part
 }
 
-pub fn get_u16(bytes: &[u8], at: usize) -> u16
-    requires { at + 2 ≤ length bytes.now }
-    ensures { result ≡ number_at 2 at bytes.now }
-{
-    u16::from_be_bytes([bytes[at], bytes[at + 1]])
+// A number of the file, its highest byte first.
+pub trait Wide: Sized {
+    ghost value: { Self → ℕ };
+
+    ghost wide: { ℕ };
+
+    // The number that begins at a place.
+    fn get(bytes: &[u8], at: usize) -> Self
+        requires { at + wide ≤ length bytes.now }
+        ensures { value result ≡ number_at wide at bytes.now };
 }
 
-pub fn get_u32(bytes: &[u8], at: usize) -> u32
-    requires { at + 4 ≤ length bytes.now }
-    ensures { result ≡ number_at 4 at bytes.now }
-{
-    u32::from_be_bytes([bytes[at], bytes[at + 1], bytes[at + 2], bytes[at + 3]])
+impl Wide for u8 {
+    ghost value = { λ n. n };
+
+    ghost wide = { 1 };
+
+    fn get(bytes: &[u8], at: usize) -> u8 {
+        bytes[at]
+    }
 }
 
-pub fn get_u64(bytes: &[u8], at: usize) -> u64
-    requires { at + 8 ≤ length bytes.now }
-    ensures { result ≡ number_at 8 at bytes.now }
-{
-    get_u32(bytes, at) as u64 * 4294967296 + get_u32(bytes, at + 4) as u64
+impl Wide for u16 {
+    ghost value = { λ n. n };
+
+    ghost wide = { 2 };
+
+    fn get(bytes: &[u8], at: usize) -> u16 {
+        u16::from_be_bytes(part(bytes, at))
+    }
+}
+
+impl Wide for u32 {
+    ghost value = { λ n. n };
+
+    ghost wide = { 4 };
+
+    fn get(bytes: &[u8], at: usize) -> u32 {
+        u32::from_be_bytes(part(bytes, at))
+    }
+}
+
+impl Wide for u64 {
+    ghost value = { λ n. n };
+
+    ghost wide = { 8 };
+
+    fn get(bytes: &[u8], at: usize) -> u64 {
+        u64::from_be_bytes(part(bytes, at))
+    }
+}
+
+// What a list among the operands is made of.
+pub trait Row: Sized {
+    // How many bytes a row takes.
+    ghost WIDTH: { ℕ };
+
+    const WIDTH: usize;
+
+    // The row that begins at a place, if the bytes are one.
+    ghost row_at: { ℕ → List ℕ → Option Self };
+
+    // All rows of some bytes, if each is one.
+    ghost rows: { List ℕ → Option (List Self) };
+
+    fn read(bytes: &[u8], at: usize) -> Option<Self>
+        requires { at + WIDTH ≤ length bytes.now }
+        ensures { result ≡ row_at at bytes.now };
+
+    ghost some: { 0 < WIDTH };
+
+    // They stand one behind the other.
+    ghost counted: { (bs : List ℕ) (xs : List Self) → rows bs ≡ Some xs → length bs / WIDTH ≡ length xs };
+
+    ghost in_turn: { (bs : List ℕ) (xs : List Self) (i : ℕ) → rows bs ≡ Some xs → i < length bs / WIDTH → row_at (WIDTH * i) bs ≡ slice_get xs i };
+
+    ghost past: { (bs : List ℕ) (xs : List Self) (i : ℕ) → rows bs ≡ Some xs → length bs / WIDTH ≤ i → None ≡ slice_get xs i };
+}
+
+impl Row for u16 {
+    ghost use Rattle.command_list.specs.RowLaws.{count_every, turn_every, end_every};
+
+    ghost WIDTH = { 2 };
+
+    const WIDTH: usize = 2;
+
+    ghost row_at = { λ at bs. Some (number_at 2 at bs) };
+
+    ghost rows = { λ bs. Some (every 2 bs) };
+
+    fn read(bytes: &[u8], at: usize) -> Option<u16> {
+        Some(Wide::get(bytes, at))
+    }
+
+    ghost use Rattle.std.proofs.Common.{rules};
+
+    ghost some = { Prim.search rules };
+
+    ghost counted = { count_every 2 };
+
+    ghost in_turn = { turn_every 2 };
+
+    ghost past = { end_every 2 };
+}
+
+impl Row for u64 {
+    ghost use Rattle.command_list.specs.RowLaws.{count_every, turn_every, end_every};
+
+    ghost WIDTH = { 8 };
+
+    const WIDTH: usize = 8;
+
+    ghost row_at = { λ at bs. Some (number_at 8 at bs) };
+
+    ghost rows = { λ bs. Some (every 8 bs) };
+
+    fn read(bytes: &[u8], at: usize) -> Option<u64> {
+        Some(Wide::get(bytes, at))
+    }
+
+    ghost use Rattle.std.proofs.Common.{rules};
+
+    ghost some = { Prim.search rules };
+
+    ghost counted = { count_every 8 };
+
+    ghost in_turn = { turn_every 8 };
+
+    ghost past = { end_every 8 };
+}
+
+// An entry, if its type is known.
+impl Row for Barrier {
+    ghost use Rattle.command_list.specs.RowLaws.{count_entries, turn_entries, end_entries};
+
+    ghost WIDTH = { 17 };
+
+    const WIDTH: usize = 17;
+
+    ghost row_at = { entry_at };
+
+    ghost rows = { λ bs. barriers (entry_numbers bs) };
+
+    fn read(bytes: &[u8], at: usize) -> Option<Barrier> {
+        let Ok(kind) = BarrierType::try_from(u8::get(bytes, at)) else {
+            return None;
+        };
+        Some(Barrier {
+            kind,
+            resource: Wide::get(bytes, at + 1),
+            subresource: Wide::get(bytes, at + 5),
+            before: Wide::get(bytes, at + 9),
+            after: Wide::get(bytes, at + 13),
+        })
+    }
+
+    ghost use Rattle.std.proofs.Common.{rules};
+
+    ghost some = { Prim.search rules };
+
+    ghost counted = { count_entries };
+
+    ghost in_turn = { turn_entries };
+
+    ghost past = { end_entries };
 }
 
 // The operands take this many bytes.
@@ -79,45 +229,48 @@ fn read_descriptor_heaps(rest: &[u8]) -> Result<Record, Number>
     ensures { seen result ≡ decode code.SetDescriptorHeaps rest.now }
 {
     width(rest, 1)?;
-    let on = flag(get_u8(rest, 0))?;
+    let on = flag(Wide::get(rest, 0))?;
     Ok(Record::Fixed(Fixed::SetDescriptorHeaps(on)))
+}
+
+// One number of four bytes.
+fn word(rest: &[u8]) -> Result<u32, Number>
+    ensures { MatchResult result (λ n. (length rest.now ≡ 4) × (n ≡ number_at 4 0 rest.now)) (λ e. (e ≡ Number.Length) × (length rest.now ≢ 4)) }
+{
+    width(rest, 4)?;
+    Ok(Wide::get(rest, 0))
 }
 
 fn read_root_signature(half: Half, rest: &[u8]) -> Result<Record, Number>
     ensures { seen result ≡ decode (of_half half code.SetGraphicsRootSignature code.SetComputeRootSignature) rest.now }
 {
-    width(rest, 4)?;
-    Ok(Record::Fixed(Fixed::SetRootSignature {
-        half,
-        signature: get_u32(rest, 0),
-    }))
+    let signature = word(rest)?;
+    Ok(Record::Fixed(Fixed::SetRootSignature { half, signature }))
 }
 
 fn read_pipeline_state(rest: &[u8]) -> Result<Record, Number>
     ensures { seen result ≡ decode code.SetPipelineState rest.now }
 {
-    width(rest, 4)?;
-    Ok(Record::Fixed(Fixed::SetPipelineState(get_u32(rest, 0))))
+    Ok(Record::Fixed(Fixed::SetPipelineState(word(rest)?)))
 }
 
 fn read_topology(rest: &[u8]) -> Result<Record, Number>
     ensures { seen result ≡ decode code.IASetPrimitiveTopology rest.now }
 {
-    width(rest, 4)?;
-    Ok(Record::Fixed(Fixed::IASetPrimitiveTopology(get_u32(rest, 0))))
+    Ok(Record::Fixed(Fixed::IASetPrimitiveTopology(word(rest)?)))
 }
 
 fn read_vertex_buffers(rest: &[u8]) -> Result<Record, Number>
     ensures { seen result ≡ decode code.IASetVertexBuffers rest.now }
 {
     width(rest, 17)?;
-    let slot = get_u8(rest, 0);
+    let slot = Wide::get(rest, 0);
     in_range(slot < 16)?;
     Ok(Record::Fixed(Fixed::IASetVertexBuffers {
         slot,
-        address: get_u64(rest, 1),
-        size: get_u32(rest, 9),
-        stride: get_u32(rest, 13),
+        address: Wide::get(rest, 1),
+        size: Wide::get(rest, 9),
+        stride: Wide::get(rest, 13),
     }))
 }
 
@@ -125,40 +278,46 @@ fn read_constant(half: Half, rest: &[u8]) -> Result<Record, Number>
     ensures { seen result ≡ decode (of_half half code.SetGraphicsRoot32BitConstant code.SetComputeRoot32BitConstant) rest.now }
 {
     width(rest, 6)?;
-    let slot = get_u8(rest, 0);
-    let word = get_u8(rest, 1);
+    let slot = Wide::get(rest, 0);
+    let word = Wide::get(rest, 1);
     in_range(slot < 64 && word < 64)?;
     Ok(Record::Fixed(Fixed::SetRoot32BitConstant {
         half,
         slot,
         word,
-        value: get_u32(rest, 2),
+        value: Wide::get(rest, 2),
     }))
+}
+
+// A root slot and an address.
+fn slot_address(rest: &[u8]) -> Result<(u8, u64), Number>
+    ensures { MatchResult result (λ p. (length rest.now ≡ 9) × (p.0 ≡ number_at 1 0 rest.now) × (p.0 < 64) × (p.1 ≡ number_at 8 1 rest.now)) (λ e. ((e ≡ Number.Length) × (length rest.now ≢ 9)) ⊎ ((e ≡ Number.Operand) × (length rest.now ≡ 9) × (64 ≤ number_at 1 0 rest.now))) }
+{
+    width(rest, 9)?;
+    let slot = Wide::get(rest, 0);
+    in_range(slot < 64)?;
+    Ok((slot, Wide::get(rest, 1)))
 }
 
 fn read_table(half: Half, rest: &[u8]) -> Result<Record, Number>
     ensures { seen result ≡ decode (of_half half code.SetGraphicsRootDescriptorTable code.SetComputeRootDescriptorTable) rest.now }
 {
-    width(rest, 9)?;
-    let slot = get_u8(rest, 0);
-    in_range(slot < 64)?;
+    let (slot, address) = slot_address(rest)?;
     Ok(Record::Fixed(Fixed::SetRootDescriptorTable {
         half,
         slot,
-        address: get_u64(rest, 1),
+        address,
     }))
 }
 
 fn read_view(half: Half, rest: &[u8]) -> Result<Record, Number>
     ensures { seen result ≡ decode (of_half half code.SetGraphicsRootConstantBufferView code.SetComputeRootConstantBufferView) rest.now }
 {
-    width(rest, 9)?;
-    let slot = get_u8(rest, 0);
-    in_range(slot < 64)?;
+    let (slot, address) = slot_address(rest)?;
     Ok(Record::Fixed(Fixed::SetRootConstantBufferView {
         half,
         slot,
-        address: get_u64(rest, 1),
+        address,
     }))
 }
 
@@ -167,13 +326,13 @@ fn read_clear(rest: &[u8]) -> Result<Record, Number>
 {
     width(rest, 24)?;
     let colour = [
-        get_u32(rest, 8),
-        get_u32(rest, 12),
-        get_u32(rest, 16),
-        get_u32(rest, 20),
+        Wide::get(rest, 8),
+        Wide::get(rest, 12),
+        Wide::get(rest, 16),
+        Wide::get(rest, 20),
     ];
     Ok(Record::Fixed(Fixed::ClearRenderTargetView {
-        target: get_u64(rest, 0),
+        target: Wide::get(rest, 0),
         colour,
     }))
 }
@@ -183,12 +342,12 @@ fn read_viewport(rest: &[u8]) -> Result<Record, Number>
 {
     width(rest, 24)?;
     Ok(Record::Fixed(Fixed::RSSetViewports([
-        get_u32(rest, 0),
-        get_u32(rest, 4),
-        get_u32(rest, 8),
-        get_u32(rest, 12),
-        get_u32(rest, 16),
-        get_u32(rest, 20),
+        Wide::get(rest, 0),
+        Wide::get(rest, 4),
+        Wide::get(rest, 8),
+        Wide::get(rest, 12),
+        Wide::get(rest, 16),
+        Wide::get(rest, 20),
     ])))
 }
 
@@ -197,10 +356,10 @@ fn read_scissor(rest: &[u8]) -> Result<Record, Number>
 {
     width(rest, 16)?;
     Ok(Record::Fixed(Fixed::RSSetScissorRects {
-        left: get_u32(rest, 0),
-        top: get_u32(rest, 4),
-        right: get_u32(rest, 8),
-        bottom: get_u32(rest, 12),
+        left: Wide::get(rest, 0),
+        top: Wide::get(rest, 4),
+        right: Wide::get(rest, 8),
+        bottom: Wide::get(rest, 12),
     }))
 }
 
@@ -209,10 +368,10 @@ fn read_draw(rest: &[u8]) -> Result<Record, Number>
 {
     width(rest, 16)?;
     Ok(Record::Fixed(Fixed::DrawInstanced {
-        vertices: get_u32(rest, 0),
-        instances: get_u32(rest, 4),
-        first_vertex: get_u32(rest, 8),
-        first_instance: get_u32(rest, 12),
+        vertices: Wide::get(rest, 0),
+        instances: Wide::get(rest, 4),
+        first_vertex: Wide::get(rest, 8),
+        first_instance: Wide::get(rest, 12),
     }))
 }
 
@@ -221,9 +380,9 @@ fn read_dispatch(rest: &[u8]) -> Result<Record, Number>
 {
     width(rest, 12)?;
     Ok(Record::Fixed(Fixed::Dispatch {
-        x: get_u32(rest, 0),
-        y: get_u32(rest, 4),
-        z: get_u32(rest, 8),
+        x: Wide::get(rest, 0),
+        y: Wide::get(rest, 4),
+        z: Wide::get(rest, 8),
     }))
 }
 
@@ -253,14 +412,14 @@ fn read_indirect(rest: &[u8]) -> Result<Record, Number>
     ensures { seen result ≡ decode code.ExecuteIndirect rest.now }
 {
     width(rest, 18)?;
-    let half = indirect_half(get_u8(rest, 0))?;
-    let special = special_slot(get_u8(rest, 1))?;
+    let half = indirect_half(Wide::get(rest, 0))?;
+    let special = special_slot(Wide::get(rest, 1))?;
     Ok(Record::Fixed(Fixed::ExecuteIndirect {
         half,
         special,
-        count: get_u32(rest, 2),
-        buffer: get_u32(rest, 6),
-        offset: get_u64(rest, 10),
+        count: Wide::get(rest, 2),
+        buffer: Wide::get(rest, 6),
+        offset: Wide::get(rest, 10),
     }))
 }
 
@@ -271,8 +430,8 @@ fn read_event(rest: &[u8]) -> Result<Record, Number>
     if n == 0 || n % 2 != 0 {
         return Err(Number::Length);
     }
-    in_range(get_u16(rest, n - 2) == 0)?;
-    Ok(Record::BeginEvent(Units { bytes: rest }))
+    in_range(u16::get(rest, n - 2) == 0)?;
+    Ok(Record::BeginEvent(Units::over(rest)))
 }
 
 fn read_targets(rest: &[u8]) -> Result<Record, Number>
@@ -282,53 +441,10 @@ fn read_targets(rest: &[u8]) -> Result<Record, Number>
         [count, handles @ ..] => {
             width(handles, 8 * *count as usize)?;
             in_range(*count <= 8)?;
-            Ok(Record::OMSetRenderTargets(Handles { bytes: handles }))
+            Ok(Record::OMSetRenderTargets(Handles::over(handles)))
         }
         [] => Err(Number::Length),
     }
-}
-
-// A barrier's type is 0 or 2.
-fn barrier_type(byte: u8) -> Option<BarrierType>
-    ensures { result ≡ type_of byte }
-{
-    match byte {
-        0 => Some(BarrierType::Transition),
-        2 => Some(BarrierType::Uav),
-        _ => None,
-    }
-}
-
-// The entry at a place, if its type is known.
-pub fn read_entry(entries: &[u8], at: usize) -> Option<Barrier>
-    requires { at + 17 ≤ length entries.now }
-    ensures { result ≡ entry_at at entries.now }
-{
-    match barrier_type(get_u8(entries, at)) {
-        Some(kind) => Some(Barrier {
-            kind,
-            resource: get_u32(entries, at + 1),
-            subresource: get_u32(entries, at + 5),
-            before: get_u32(entries, at + 9),
-            after: get_u32(entries, at + 13),
-        }),
-        None => None,
-    }
-}
-
-// Each entry of 17 bytes begins with a type that is known.
-pub fn types_known(entries: &[u8]) -> bool
-    requires { length entries.now % 17 ≡ 0 }
-    ensures { result ≡ is_some (barriers (entry_numbers entries.now)) }
-{
-    let mut at = 0;
-    while at < entries.len() {
-        if entries[at] != 0 && entries[at] != 2 {
-            return false;
-        }
-        at += 17;
-    }
-    true
 }
 
 fn read_barriers(rest: &[u8]) -> Result<Record, Number>
@@ -338,8 +454,9 @@ fn read_barriers(rest: &[u8]) -> Result<Record, Number>
     if n == 0 || n % 17 != 0 {
         return Err(Number::Length);
     }
-    in_range(types_known(rest))?;
-    Ok(Record::ResourceBarrier(Entries { bytes: rest }))
+    let entries = Entries::over(rest);
+    in_range(entries.known())?;
+    Ok(Record::ResourceBarrier(entries))
 }
 
 // The record that a code and its operands make.

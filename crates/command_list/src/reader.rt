@@ -19,17 +19,13 @@ fn front(left: &[u8]) -> Result<Option<(Record, usize)>, Number>
     match left {
         [] => Ok(None),
         [hi, lo, code, rest @ ..] => {
-            let n = *hi as usize * 256 + *lo as usize;
+            let n = u16::from_be_bytes([*hi, *lo]) as usize;
             if n == 0 || rest.len() < n - 1 {
                 return Err(Number::Cut);
             }
-            let Some(op) = Code::named(*code) else {
-                return Err(Number::Unknown);
-            };
-            match read_operands(op, &rest[0..n - 1]) {
-                Ok(record) => Ok(Some((record, 2 + n))),
-                Err(number) => Err(number),
-            }
+            let code = Code::try_from(*code)?;
+            let record = read_operands(code, &rest[0..n - 1])?;
+            Ok(Some((record, 2 + n)))
         }
         _ => Err(Number::Cut),
     }
@@ -47,11 +43,8 @@ impl<'a> Reader<'a> {
     pub fn open(file: &'a [u8]) -> Result<Reader<'a>, Fault>
         ensures { MatchResult result (λ o. (has_version file.now ≡ true) × (o.file.now ≡ file.now) × (o.at ≡ 1)) (λ f. (has_version file.now ≡ false) × IsFault f 21 0) }
     {
-        if file.len() == 0 || file.len() > MOST_BYTES || file[0] != 1 {
-            return Err(Fault {
-                number: Number::Version,
-                place: 0,
-            });
+        if file.len() > MOST_BYTES || file.first() != Some(&1) {
+            return Err(Number::Version.at(0));
         }
         Ok(Reader { file, at: 1 })
     }
@@ -75,14 +68,12 @@ impl<'a> Reader<'a> {
             return Ok(None);
         }
         match front(&file[at..]) {
-            Ok(next) => match next {
-                None => Ok(None),
-                Some((record, size)) => {
-                    self.at = at + size;
-                    Ok(Some(record))
-                }
-            },
-            Err(number) => Err(Fault { number, place: at }),
+            Ok(None) => Ok(None),
+            Ok(Some((record, size))) => {
+                self.at = at + size;
+                Ok(Some(record))
+            }
+            Err(number) => Err(number.at(at)),
         }
     }
 }

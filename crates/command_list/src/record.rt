@@ -1,68 +1,58 @@
 // A record as it is read: the lists among the operands stay parts of the file's own bytes.
-ghost use Rattle.std.specs.Prelude.{◌≡◌, ◌*◌, ◌/◌, List, length, is_some, if◌then◌else◌, Some, None, nat_lt};
+ghost use Rattle.std.specs.Prelude.{◌≡◌, ◌+◌, ◌*◌, ◌/◌, ◌<◌, ◌≤◌, ℕ, List, length, is_some, if◌then◌else◌, Option, Some, None, nat_lt};
 ghost use Rattle.std.specs.List.{slice_get};
+ghost use Rattle.command_list.specs.Numbers.{number_at};
 ghost use Rattle.command_list.specs.Decoding.{barriers};
 ghost use Rattle.command_list.specs.Seen.{every, entry_at, entry_numbers};
 
-use crate::command::{Barrier, Fixed};
-use crate::fields::{get_u16, get_u64, read_entry, types_known};
+use crate::command::{Barrier, BarrierType, Call};
+use crate::fields::Row;
+use std::marker::PhantomData;
+
+// A list among the operands: rows of one width, as the file's bytes have them.
+#[derive(Clone, Copy)]
+pub struct Rows<'a, T> {
+    pub bytes: &'a [u8],
+    of: PhantomData<T>,
+}
 
 // The UTF-16 units of a label, two bytes each.
-#[derive(Clone, Copy)]
-pub struct Units<'a> {
-    pub bytes: &'a [u8],
-}
+pub type Units<'a> = Rows<'a, u16>;
 
 // The handles of render targets, eight bytes each.
-#[derive(Clone, Copy)]
-pub struct Handles<'a> {
-    pub bytes: &'a [u8],
-}
+pub type Handles<'a> = Rows<'a, u64>;
 
 // The entries of a resource barrier, 17 bytes each.
-#[derive(Clone, Copy)]
-pub struct Entries<'a> {
-    pub bytes: &'a [u8],
-}
+pub type Entries<'a> = Rows<'a, Barrier>;
 
-#[derive(Clone, Copy)]
-pub enum Record<'a> {
-    BeginEvent(Units<'a>),
-    OMSetRenderTargets(Handles<'a>),
-    ResourceBarrier(Entries<'a>),
-    Fixed(Fixed),
-}
+// A command that was read.
+pub type Record<'a> = Call<Units<'a>, Handles<'a>, Entries<'a>>;
 
-impl<'a> Units<'a> {
-    pub fn len(&self) -> usize
-        ensures { result ≡ length (every 2 self.now.bytes.now) }
+impl<'a, T: Row> Rows<'a, T> {
+    // The rows of any bytes. Bytes at the end that are no whole row count for nothing.
+    pub fn over(bytes: &'a [u8]) -> Rows<'a, T>
+        ensures { result.bytes.now ≡ bytes.now }
     {
-        self.bytes.len() / 2
-    }
-
-    pub fn get(&self, i: usize) -> Option<u16>
-        ensures { result ≡ slice_get (every 2 self.now.bytes.now) i }
-    {
-        if i < self.len() {
-            Some(get_u16(self.bytes, 2 * i))
-        } else {
-            None
+        Rows {
+            bytes,
+            of: PhantomData,
         }
     }
-}
 
-impl<'a> Handles<'a> {
     pub fn len(&self) -> usize
-        ensures { result ≡ length (every 8 self.now.bytes.now) }
+        ensures count { result ≡ length self.now.bytes.now / T.WIDTH }
+        ensures listed { (xs : List T) → T.rows self.now.bytes.now ≡ Some xs → result ≡ length xs }
     {
-        self.bytes.len() / 8
+        self.bytes.len() / T::WIDTH
     }
 
-    pub fn get(&self, i: usize) -> Option<u64>
-        ensures { result ≡ slice_get (every 8 self.now.bytes.now) i }
+    // A row; none past the last one, or where the bytes are no row.
+    pub fn get(&self, i: usize) -> Option<T>
+        ensures row { result ≡ (if nat_lt i (length self.now.bytes.now / T.WIDTH) then T.row_at (T.WIDTH * i) self.now.bytes.now else None) }
+        ensures listed { (xs : List T) → T.rows self.now.bytes.now ≡ Some xs → result ≡ slice_get xs i }
     {
         if i < self.len() {
-            Some(get_u64(self.bytes, 8 * i))
+            T::read(self.bytes, T::WIDTH * i)
         } else {
             None
         }
@@ -70,29 +60,10 @@ impl<'a> Handles<'a> {
 }
 
 impl<'a> Entries<'a> {
-    pub fn len(&self) -> usize
-        ensures { result ≡ length self.now.bytes.now / 17 }
-    {
-        self.bytes.len() / 17
-    }
-
     // Whether the type of each entry is known.
     pub fn known(&self) -> bool
         ensures { result ≡ is_some (barriers (entry_numbers self.now.bytes.now)) }
     {
-        let n = self.len();
-        types_known(&self.bytes[0..17 * n])
-    }
-
-    // An entry; none past the last one, or where its type is not known.
-    pub fn get(&self, i: usize) -> Option<Barrier>
-        ensures entry { result ≡ (if nat_lt i (length self.now.bytes.now / 17) then entry_at (17 * i) self.now.bytes.now else None) }
-        ensures listed { (es : List Barrier) → barriers (entry_numbers self.now.bytes.now) ≡ Some es → result ≡ slice_get es i }
-    {
-        if i < self.len() {
-            read_entry(self.bytes, 17 * i)
-        } else {
-            None
-        }
+        (0..self.len()).all(|i| BarrierType::try_from(self.bytes[17 * i]).is_ok())
     }
 }

@@ -1,8 +1,9 @@
-use Rattle.std.proofs.Common.{sym, ap, ◌∙◌, arith}
+use Rattle.std.proofs.Common.{is_some, sym, ap, ◌∙◌, arith}
 use Rattle.std.proofs.lemmas.Result.{err_from_is_err_and}
 use Rattle.std.proofs.lemmas.Bool.{cond-true, cond-false}
-use Rattle.command_list.specs.Decoding.{wrong}
-use Rattle.command_list.specs.Seen.{number_of}
+use Rattle.command_list.specs.Commands.{ResourceBarrier}
+use Rattle.command_list.specs.Decoding.{wrong, takes, barriers}
+use Rattle.command_list.specs.Seen.{number_of, entry_numbers, entries_of}
 use Rattle.command_list.proofs.Runs.{decode_barriers}
 use Rattle.command_list.proofs.fields.read_barriers.Goals as goal
 
@@ -12,9 +13,10 @@ returns-in_err-in_range c =
     let no = c.in_err-in_range.ensures in
     rw (p.1, p.2)
     (ap (λ n. wrong (number_of n)) no.0
-    ∙ sym (decode_barriers c.args.rest.now (omega (arith, c.if-n-eq0.false)) c.if-n-ne0.false ∙ cond-false _ _ _ (sym c.types_known.ensures ∙ no.1)))
+    ∙ sym (decode_barriers c.args.rest.now (omega (arith, c.if-n-eq0.false)) c.if-n-ne0.false ∙ cond-false _ _ _ (sym (c.known.ensures ∙ ap (λ bs. is_some (barriers (entry_numbers bs))) c.over-entries.ensures) ∙ no.1)))
 
 pub returns : goal.returns
 returns c =
-    sym (decode_barriers c.args.rest.now (omega (arith, c.if-n-eq0.false)) c.if-n-ne0.false
-    ∙ cond-true _ _ _ (sym c.types_known.ensures ∙ c.in_ok-in_range.ensures))
+    ap (λ bs. takes (ResourceBarrier (entries_of bs))) c.over-entries.ensures
+    ∙ sym (decode_barriers c.args.rest.now (omega (arith, c.if-n-eq0.false)) c.if-n-ne0.false
+    ∙ cond-true _ _ _ (sym (c.known.ensures ∙ ap (λ bs. is_some (barriers (entry_numbers bs))) c.over-entries.ensures) ∙ c.in_ok-in_range.ensures))

@@ -1,8 +1,9 @@
 use Rattle.std.proofs.Common.{eqb, sym, ap, ◌∙◌, arith}
 use Rattle.std.proofs.lemmas.Result.{err_from_is_err_and}
 use Rattle.std.proofs.lemmas.Bool.{cond-true, cond-false}
-use Rattle.command_list.specs.Decoding.{wrong}
-use Rattle.command_list.specs.Seen.{number_of}
+use Rattle.command_list.specs.Commands.{BeginEvent}
+use Rattle.command_list.specs.Decoding.{wrong, takes}
+use Rattle.command_list.specs.Seen.{number_of, every}
 use Rattle.command_list.proofs.Runs.{decode_event}
 use Rattle.command_list.proofs.fields.read_event.Goals as goal
 
@@ -12,9 +13,10 @@ returns-in_err-in_range c =
     let no = c.in_err-in_range.ensures in
     rw (p.1, p.2)
     (ap (λ n. wrong (number_of n)) no.0
-    ∙ sym (decode_event c.args.rest.now (omega (arith, c.if-n-eq0.false)) c.if-n-ne0.false ∙ cond-false _ _ _ (ap (λ n. eqb n 0) (sym c.get_u16.ensures) ∙ no.1)))
+    ∙ sym (decode_event c.args.rest.now (omega (arith, c.if-n-eq0.false)) c.if-n-ne0.false ∙ cond-false _ _ _ (ap (λ n. eqb n 0) (sym c.get.ensures) ∙ no.1)))
 
 pub returns : goal.returns
 returns c =
-    sym (decode_event c.args.rest.now (omega (arith, c.if-n-eq0.false)) c.if-n-ne0.false
-    ∙ cond-true _ _ _ (ap (λ n. eqb n 0) (sym c.get_u16.ensures) ∙ c.in_ok-in_range.ensures))
+    ap (λ bs. takes (BeginEvent (every 2 bs))) c.over.ensures
+    ∙ sym (decode_event c.args.rest.now (omega (arith, c.if-n-eq0.false)) c.if-n-ne0.false
+    ∙ cond-true _ _ _ (ap (λ n. eqb n 0) (sym c.get.ensures) ∙ c.in_ok-in_range.ensures))

@@ -22,5 +22,5 @@ returns-in_err-in_range-in-len1-up c =
 
 pub returns-in_ok-in_range-in-len1-up : goal.returns-in_ok-in_range-in-len1-up
 returns-in_ok-in_range-in-len1-up c =
-    ap (λ l. takes (OMSetRenderTargets (every 8 l))) (take_rest c.args.rest.now 1)
+    ap (λ l. takes (OMSetRenderTargets (every 8 l))) (c.over.ensures ∙ take_rest c.args.rest.now 1)
     ∙ sym (decode_targets _ c.args.rest.now refl (whole c.args.rest.now (omega (arith, ltb-false)) c.in_ok-width-in-len1-up.ensures) ∙ cond-true _ _ _ c.in_ok-in_range-in-len1-up.ensures)

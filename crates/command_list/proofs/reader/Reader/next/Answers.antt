@@ -1,32 +1,36 @@
-use Rattle.std.proofs.Common.{length, drop, sym, refl, ap, ◌∙◌, arith, length-drop}
+use Rattle.std.proofs.Common.{length, drop, sym, ap, ap₂, ◌∙◌, arith, length-drop}
 use Rattle.std.proofs.lemmas.List.{drop_all, take_rest}
 use Rattle.command_list.specs.Decoding.{front}
-use Rattle.command_list.specs.Seen.{step_of, step_at, front_of}
+use Rattle.command_list.specs.Seen.{number_of, stopped, step_of, step_at, seen_front, front_of}
 use Rattle.command_list.proofs.Fronts.{front_none, front_within}
 use Rattle.command_list.proofs.reader.Reader.next.Goals as goal
 
-pub returns-then-at-file : goal.returns-then-at-file
+pub returns-then-at-file-clause-gives : goal.returns-then-at-file-clause-gives
 unfolding step_at
-returns-then-at-file c =
+returns-then-at-file-clause-gives c =
     let at = c.args.self.now.at in
     let bs = c.args.self.now.file.now in
-    record { same = refl; gives = ap (λ f. step_of f at) (sym (front_none (drop at bs) (ap length (drop_all at bs c.if-at-file.true)))) }
+    ap (λ f. step_of f at) (sym (front_none (drop at bs) (ap length (drop_all at bs c.if-at-file.true))))
 
 pub overflow_add-self : goal.overflow_add-self
 overflow_add-self c =
     let at = c.args.self.now.at in
     let bs = c.args.self.now.file.now in
-    let w = front_within (drop at bs) _ _ (sym (ap front (take_rest bs at)) ∙ sym c.in-Ok.ensures ∙ ap front_of c.in-Some.is) in
+    let w = front_within (drop at bs) _ _ (sym (c.front.ensures ∙ ap front (take_rest bs at)) ∙ ap seen_front c.in-Ok-Some.is ∙ ap front_of c.in-Ok-Some.field-0-is) in
     omega (arith, w.1, length-drop at bs, c.if-at-file.false)
 
-pub returns-in-None : goal.returns-in-None
+pub returns-in-Ok-None-clause-gives : goal.returns-in-Ok-None-clause-gives
 unfolding step_at
-returns-in-None c = record { same = refl; gives = ap (λ f. step_of f c.args.self.now.at) (ap front_of (sym c.in-None.is) ∙ c.in-Ok.ensures ∙ ap front (take_rest c.args.self.now.file.now c.args.self.now.at)) }
+returns-in-Ok-None-clause-gives c =
+    ap (λ f. step_of f c.args.self.now.at) (sym (ap seen_front c.in-Ok-None.is ∙ ap front_of c.in-Ok-None.field-0-is) ∙ c.front.ensures ∙ ap front (take_rest c.args.self.now.file.now c.args.self.now.at))
 
-pub returns-in-Some : goal.returns-in-Some
+pub returns-in-Ok-Some-clause-gives : goal.returns-in-Ok-Some-clause-gives
 unfolding step_at
-returns-in-Some c = record { same = refl; gives = ap (λ f. step_of f c.args.self.now.at) (ap front_of (sym c.in-Some.is) ∙ c.in-Ok.ensures ∙ ap front (take_rest c.args.self.now.file.now c.args.self.now.at)) }
+returns-in-Ok-Some-clause-gives c =
+    ap (λ f. step_of f c.args.self.now.at) (sym (ap seen_front c.in-Ok-Some.is ∙ ap front_of c.in-Ok-Some.field-0-is) ∙ c.front.ensures ∙ ap front (take_rest c.args.self.now.file.now c.args.self.now.at))
 
-pub returns-in-Err : goal.returns-in-Err
+pub returns-in-Err-clause-gives : goal.returns-in-Err-clause-gives
 unfolding step_at
-returns-in-Err c = record { same = refl; gives = ap (λ f. step_of f c.args.self.now.at) (c.in-Err.ensures ∙ ap front (take_rest c.args.self.now.file.now c.args.self.now.at)) }
+returns-in-Err-clause-gives c =
+    ap₂ (λ n p. stopped n p c.args.self.now.at) (ap number_of c.at.ensures.0) c.at.ensures.1
+    ∙ ap (λ f. step_of f c.args.self.now.at) (sym (ap seen_front c.in-Err.is) ∙ c.front.ensures ∙ ap front (take_rest c.args.self.now.file.now c.args.self.now.at))

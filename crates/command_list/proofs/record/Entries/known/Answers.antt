@@ -1,10 +1,10 @@
-use Rattle.std.proofs.Common.{is_some, ap, ◌∙◌}
-use Rattle.command_list.specs.Decoding.{barriers}
-use Rattle.command_list.proofs.Runs.{whole_entries, whole_length}
+use Rattle.std.proofs.Common.{rules, refl, ◌∙◌, arith}
+use Rattle.std.proofs.lemmas.Iterator.{YieldsList-from_range}
+use Rattle.std.proofs.lemmas.Iterator.Search.{all_from_yields_List}
+use Rattle.command_list.proofs.Runs.{known_at, known_all}
 use Rattle.command_list.proofs.record.Entries.known.Goals as goal
 
-pub types_known-requires : goal.types_known-requires
-types_known-requires c = whole_length _ c.args.self.now.bytes.now c.len-n.ensures
-
 pub returns : goal.returns
-returns c = c.types_known.ensures ∙ ap (λ v. is_some (barriers v)) (whole_entries _ c.args.self.now.bytes.now c.len-n.ensures)
+returns c =
+    let bs = c.args.self.now.bytes.now in
+    all_from_yields_List (known_at bs) _ _ _ c.all.ensures.ran (YieldsList-from_range 0 _ _ refl (omega (arith, c.len.ensures.count))) (λ x b q k. search rules) ∙ known_all bs
