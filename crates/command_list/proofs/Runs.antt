@@ -1,18 +1,15 @@
 -- Numbers of equal widths, one behind the other.
-use Rattle.std.proofs.Common.{◌≡◌, ℕ, zero, suc, ◌+◌, ◌-◌, ◌*◌, ◌/◌, ◌%◌, ◌<◌, ◌≤◌, Bool, cond, ◌&&◌, eqb, leb, List, [], ◌∷◌, ◌++◌, length, get_or, take, drop, is_some, Some, None, Option, unwrap_or, sym, refl, ap, ◌∙◌, ap₂, add-zero, add_assoc, suc-mul, zero-add, zero-mul, arith, length-drop}
+use Rattle.std.proofs.Common.{◌≡◌, ℕ, zero, suc, ◌+◌, ◌-◌, ◌*◌, ◌/◌, ◌%◌, ◌<◌, ◌≤◌, cond, eqb, leb, List, [], ◌∷◌, ◌++◌, length, get_or, take, drop, is_some, Some, None, Option, unwrap_or, sym, refl, ap, ◌∙◌, ap₂, add-zero, add_assoc, suc-mul, zero-add, zero-mul, arith, length-drop}
 use native.Mathlib.Nat.{mul-div_right, mul-mod_right}
-use Rattle.std.specs.List.{list_all, range_with_len}
 use Rattle.std.specs.Int.Digits.{number_from_digits}
 use Rattle.std.proofs.lemmas.List.{drop-drop, drop-take, take-take, length-take-le}
 use Rattle.std.proofs.lemmas.Bool.{cond-true, eq-eqb, lt-ltb, and_from}
 use Rattle.command_list.specs.declared.command.Barrier.{Barrier}
-use Rattle.command_list.specs.declared.command.BarrierType.{BarrierType}
 use Rattle.command_list.specs.declared.code.Code.TheVariants as code
 use Rattle.command_list.specs.Numbers.{number_at, numbers}
 use Rattle.command_list.specs.Commands.{BeginEvent, OMSetRenderTargets, ResourceBarrier, ends_with_zero}
-use Rattle.command_list.specs.Decoding.{sum, repeated, type_of, barriers, then, takes, wrong, checked, decode}
-use Rattle.command_list.proofs.Places.{number_1}
-use Rattle.command_list.specs.RowLaws.{length_every, five, count_barriers}
+use Rattle.command_list.specs.Decoding.{sum, repeated, barriers, then, takes, wrong, checked, decode}
+use Rattle.command_list.specs.RowLaws.{length_every, count_barriers}
 use Rattle.command_list.specs.Seen.{every, entry_numbers, entries_of}
 
 -- from a place on is as from the start of what follows the place
@@ -52,29 +49,6 @@ decode_targets n bs f e =
     cond-true _ _ _ (eq-eqb (length bs) (1 + 8 * get_or bs 0 0) (omega arith))
     ∙ ap (λ l. cond (leb (length l) 8) (takes (OMSetRenderTargets l)) (wrong 25)) (handles_behind n bs e)
     ∙ ap (λ k. cond (leb k 8) (takes (OMSetRenderTargets (every 8 (drop 1 bs)))) (wrong 25)) many
-
--- barriers from their numbers, one on
-then_some : (o : Option BarrierType) (p : Option (List Barrier)) (f : BarrierType → List Barrier → List Barrier) → is_some (then o (λ k. then p (λ es. Some (f k es)))) ≡ (is_some o && is_some p)
-then_some None p f = refl
-then_some (Some k) None f = refl
-then_some (Some k) (Some es) f = refl
-
--- whether the type of an entry is known
-abbrev pub known_at : List ℕ → ℕ → Bool
-known_at bs i = is_some (type_of (get_or bs (17 * i) 0))
-
--- the types of all entries from a place on
-known_from : (n i : ℕ) (bs : List ℕ) → 17 * (i + n) ≤ length bs → list_all (known_at bs) (range_with_len i n) ≡ is_some (barriers (numbers (repeated n five) (17 * i) bs))
-known_from zero i bs h = refl
-known_from (suc n) i bs h =
-    let rest : List ℕ = numbers (repeated n five) (17 * i + 1 + 4 + 4 + 4 + 4) bs in
-    let far : 17 * (i + 1) ≡ 17 * i + 1 + 4 + 4 + 4 + 4 = omega arith in
-    ap (λ t. known_at bs i && t) (known_from n (i + 1) bs (omega arith) ∙ ap (λ k. is_some (barriers (numbers (repeated n five) k bs))) far)
-    ∙ ap (λ t. is_some (type_of t) && is_some (barriers rest)) (sym (number_1 (17 * i) bs (omega arith)))
-    ∙ sym (then_some (type_of (number_at 1 (17 * i) bs)) (barriers rest) _)
-
-pub known_all : (bs : List ℕ) → list_all (known_at bs) (range_with_len 0 (length bs / 17)) ≡ is_some (barriers (entry_numbers bs))
-known_all bs = known_from (length bs / 17) 0 bs (omega arith)
 
 taken_barriers : (o : Option (List Barrier)) → ((es : List Barrier) → o ≡ Some es → 0 < length es)
     → checked (then o (λ es. Some (ResourceBarrier es))) ≡ cond (is_some o) (takes (ResourceBarrier (unwrap_or o []))) (wrong 25)

@@ -1,6 +1,6 @@
 -- Rows of one width, one behind the other: how many there are, and what stands at each place.
-use Rattle.std.proofs.Common.{◌≡◌, ℕ, zero, suc, ◌+◌, ◌*◌, ◌/◌, ◌<◌, ◌≤◌, List, [], ◌∷◌, length, is_some, Some, None, Option, sym, refl, ap, ◌∙◌, mul-zero, mul-suc, arith}
-use Rattle.std.specs.List.{slice_get}
+use Rattle.std.proofs.Common.{◌≡◌, ℕ, zero, suc, ◌+◌, ◌*◌, ◌/◌, ◌<◌, ◌≤◌, ◌&&◌, true, List, [], ◌∷◌, length, is_some, Some, None, Option, sym, refl, ap, ◌∙◌, mul-zero, mul-suc, arith}
+use Rattle.std.specs.List.{slice_get, list_all, range_with_len}
 use Rattle.std.proofs.lemmas.Option.{slice_get_past}
 use Rattle.std.proofs.lemmas.Bool.{false≢true}
 use Rattle.command_list.specs.declared.command.Barrier.{Barrier}
@@ -96,3 +96,31 @@ turn_entries bs xs i e h = nth_entry i bs xs h e
 
 pub end_entries : (bs : List ℕ) (xs : List Barrier) (i : ℕ) → barriers (entry_numbers bs) ≡ Some xs → length bs / 17 ≤ i → None ≡ slice_get xs i
 end_entries bs xs i e h = past_entry i bs xs h e
+
+all_some : {A : Type 0} (f : ℕ → A) (ns : List ℕ) → list_all (λ i. is_some (Some (f i))) ns ≡ true
+all_some f [] = refl
+all_some f (n ∷ ns) = all_some f ns
+
+pub each_every : (w : ℕ) (bs : List ℕ) → list_all (λ i. is_some (Some (number_at w (w * i) bs))) (range_with_len 0 (length bs / w)) ≡ is_some (Some (every w bs))
+each_every w bs = all_some (λ i. number_at w (w * i) bs) (range_with_len 0 (length bs / w))
+
+some_then : {A B : Type 0} (o : Option A) (f : A → B) → is_some (then o (λ a. Some (f a))) ≡ is_some o
+some_then None f = refl
+some_then (Some a) f = refl
+
+some_both : {A B C : Type 0} (o : Option A) (p : Option B) (f : A → B → C) → is_some (then o (λ a. then p (λ b. Some (f a b)))) ≡ (is_some o && is_some p)
+some_both None p f = refl
+some_both (Some a) None f = refl
+some_both (Some a) (Some b) f = refl
+
+each_from : (n i : ℕ) (bs : List ℕ) → list_all (λ j. is_some (entry_at (17 * j) bs)) (range_with_len i n) ≡ is_some (barriers (numbers (repeated n five) (17 * i) bs))
+each_from zero i bs = refl
+each_from (suc n) i bs =
+    let rest : List ℕ = numbers (repeated n five) (17 * i + 1 + 4 + 4 + 4 + 4) bs in
+    let far : 17 * (i + 1) ≡ 17 * i + 1 + 4 + 4 + 4 + 4 = omega arith in
+    ap (λ t. is_some (entry_at (17 * i) bs) && t) (each_from n (i + 1) bs ∙ ap (λ k. is_some (barriers (numbers (repeated n five) k bs))) far)
+    ∙ ap (λ t. t && is_some (barriers rest)) (some_then (type_of (number_at 1 (17 * i) bs)) _)
+    ∙ sym (some_both (type_of (number_at 1 (17 * i) bs)) (barriers rest) _)
+
+pub each_entry : (bs : List ℕ) → list_all (λ i. is_some (entry_at (17 * i) bs)) (range_with_len 0 (length bs / 17)) ≡ is_some (barriers (entry_numbers bs))
+each_entry bs = each_from (length bs / 17) 0 bs

@@ -4,11 +4,11 @@ ghost use Rattle.std.specs.List.{slice_get};
 ghost use Rattle.command_list.specs.declared.code.Code.TheVariants as code;
 ghost use Rattle.command_list.specs.Numbers.{number_at};
 ghost use Rattle.command_list.specs.Commands.{of_half, is_special};
-ghost use Rattle.command_list.specs.Decoding.{decode, flag_of, kind_of, special_of, barriers};
-ghost use Rattle.command_list.specs.Seen.{seen, every, entry_at, entry_numbers};
+ghost use Rattle.command_list.specs.Decoding.{decode, flag_of, kind_of, special_of};
+ghost use Rattle.command_list.specs.Seen.{seen};
 
 use crate::code::Code;
-use crate::command::{Barrier, BarrierType, Fixed, Half};
+use crate::command::{Fixed, Half};
 use crate::fault::Number;
 use crate::record::{Entries, Handles, Record, Units};
 
@@ -72,121 +72,6 @@ impl Wide for u64 {
     fn get(bytes: &[u8], at: usize) -> u64 {
         u64::from_be_bytes(part(bytes, at))
     }
-}
-
-// What a list among the operands is made of.
-pub trait Row: Sized {
-    // How many bytes a row takes.
-    ghost WIDTH: { ℕ };
-
-    const WIDTH: usize;
-
-    // The row that begins at a place, if the bytes are one.
-    ghost row_at: { ℕ → List ℕ → Option Self };
-
-    // All rows of some bytes, if each is one.
-    ghost rows: { List ℕ → Option (List Self) };
-
-    fn read(bytes: &[u8], at: usize) -> Option<Self>
-        requires { at + WIDTH ≤ length bytes.now }
-        ensures { result ≡ row_at at bytes.now };
-
-    ghost some: { 0 < WIDTH };
-
-    // They stand one behind the other.
-    ghost counted: { (bs : List ℕ) (xs : List Self) → rows bs ≡ Some xs → length bs / WIDTH ≡ length xs };
-
-    ghost in_turn: { (bs : List ℕ) (xs : List Self) (i : ℕ) → rows bs ≡ Some xs → i < length bs / WIDTH → row_at (WIDTH * i) bs ≡ slice_get xs i };
-
-    ghost past: { (bs : List ℕ) (xs : List Self) (i : ℕ) → rows bs ≡ Some xs → length bs / WIDTH ≤ i → None ≡ slice_get xs i };
-}
-
-impl Row for u16 {
-    ghost use Rattle.command_list.specs.RowLaws.{count_every, turn_every, end_every};
-
-    ghost WIDTH = { 2 };
-
-    const WIDTH: usize = 2;
-
-    ghost row_at = { λ at bs. Some (number_at 2 at bs) };
-
-    ghost rows = { λ bs. Some (every 2 bs) };
-
-    fn read(bytes: &[u8], at: usize) -> Option<u16> {
-        Some(Wide::get(bytes, at))
-    }
-
-    ghost use Rattle.std.proofs.Common.{rules};
-
-    ghost some = { Prim.search rules };
-
-    ghost counted = { count_every 2 };
-
-    ghost in_turn = { turn_every 2 };
-
-    ghost past = { end_every 2 };
-}
-
-impl Row for u64 {
-    ghost use Rattle.command_list.specs.RowLaws.{count_every, turn_every, end_every};
-
-    ghost WIDTH = { 8 };
-
-    const WIDTH: usize = 8;
-
-    ghost row_at = { λ at bs. Some (number_at 8 at bs) };
-
-    ghost rows = { λ bs. Some (every 8 bs) };
-
-    fn read(bytes: &[u8], at: usize) -> Option<u64> {
-        Some(Wide::get(bytes, at))
-    }
-
-    ghost use Rattle.std.proofs.Common.{rules};
-
-    ghost some = { Prim.search rules };
-
-    ghost counted = { count_every 8 };
-
-    ghost in_turn = { turn_every 8 };
-
-    ghost past = { end_every 8 };
-}
-
-// An entry, if its type is known.
-impl Row for Barrier {
-    ghost use Rattle.command_list.specs.RowLaws.{count_entries, turn_entries, end_entries};
-
-    ghost WIDTH = { 17 };
-
-    const WIDTH: usize = 17;
-
-    ghost row_at = { entry_at };
-
-    ghost rows = { λ bs. barriers (entry_numbers bs) };
-
-    fn read(bytes: &[u8], at: usize) -> Option<Barrier> {
-        let Ok(kind) = BarrierType::try_from(u8::get(bytes, at)) else {
-            return None;
-        };
-        Some(Barrier {
-            kind,
-            resource: Wide::get(bytes, at + 1),
-            subresource: Wide::get(bytes, at + 5),
-            before: Wide::get(bytes, at + 9),
-            after: Wide::get(bytes, at + 13),
-        })
-    }
-
-    ghost use Rattle.std.proofs.Common.{rules};
-
-    ghost some = { Prim.search rules };
-
-    ghost counted = { count_entries };
-
-    ghost in_turn = { turn_entries };
-
-    ghost past = { end_entries };
 }
 
 // The operands take this many bytes.

@@ -7,3 +7,4 @@ pub mod fault;
 mod fields;
 pub mod reader;
 pub mod record;
+pub mod row;

@@ -5,8 +5,8 @@ ghost use Rattle.command_list.specs.Numbers.{number_at};
 ghost use Rattle.command_list.specs.Decoding.{barriers};
 ghost use Rattle.command_list.specs.Seen.{every, entry_at, entry_numbers};
 
-use crate::command::{Barrier, BarrierType, Call};
-use crate::fields::Row;
+use crate::command::{Barrier, Call};
+use crate::row::Row;
 use std::marker::PhantomData;
 
 // A list among the operands: rows of one width, as the file's bytes have them.
@@ -51,19 +51,13 @@ impl<'a, T: Row> Rows<'a, T> {
         ensures row { result ≡ (if nat_lt i (length self.now.bytes.now / T.WIDTH) then T.row_at (T.WIDTH * i) self.now.bytes.now else None) }
         ensures listed { (xs : List T) → T.rows self.now.bytes.now ≡ Some xs → result ≡ slice_get xs i }
     {
-        if i < self.len() {
-            T::read(self.bytes, T::WIDTH * i)
-        } else {
-            None
-        }
+        T::read(self.bytes, T::WIDTH.checked_mul(i)?)
     }
-}
 
-impl<'a> Entries<'a> {
-    // Whether the type of each entry is known.
+    // Whether each row is one.
     pub fn known(&self) -> bool
-        ensures { result ≡ is_some (barriers (entry_numbers self.now.bytes.now)) }
+        ensures { result ≡ is_some (T.rows self.now.bytes.now) }
     {
-        (0..self.len()).all(|i| BarrierType::try_from(self.bytes[17 * i]).is_ok())
+        (0..self.len()).all(|i| self.get(i).is_some())
     }
 }

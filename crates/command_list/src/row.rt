@@ -1,0 +1,140 @@
+// What a list among the operands is made of.
+ghost use Rattle.std.specs.Prelude.{◌≡◌, ℕ, ◌+◌, ◌*◌, ◌/◌, ◌<◌, ◌≤◌, if◌then◌else◌, nat_le, List, length, is_some, Option, Some, None};
+ghost use Rattle.std.specs.List.{slice_get, list_all, range_with_len};
+ghost use Rattle.command_list.specs.Numbers.{number_at};
+ghost use Rattle.command_list.specs.Decoding.{barriers};
+ghost use Rattle.command_list.specs.Seen.{every, entry_at, entry_numbers};
+
+use crate::command::{Barrier, BarrierType};
+use crate::fields::Wide;
+
+// A row of one width.
+pub trait Row: Copy {
+    // How many bytes a row takes.
+    ghost WIDTH: { ℕ };
+
+    const WIDTH: usize;
+
+    // The row that begins at a place, if the bytes are one.
+    ghost row_at: { ℕ → List ℕ → Option Self };
+
+    // The rows of some bytes, one behind the other, if each is one.
+    ghost rows: { List ℕ → Option (List Self) };
+
+    // The row that begins at a place; none where the bytes end before it does, or are no row.
+    fn read(bytes: &[u8], at: usize) -> Option<Self>
+        ensures { result ≡ (if nat_le (at + WIDTH) (length bytes.now) then row_at at bytes.now else None) };
+
+    ghost some: { 0 < WIDTH };
+
+    ghost counted: { (bs : List ℕ) (xs : List Self) → rows bs ≡ Some xs → length bs / WIDTH ≡ length xs };
+
+    ghost in_turn: { (bs : List ℕ) (xs : List Self) (i : ℕ) → rows bs ≡ Some xs → i < length bs / WIDTH → row_at (WIDTH * i) bs ≡ slice_get xs i };
+
+    ghost past: { (bs : List ℕ) (xs : List Self) (i : ℕ) → rows bs ≡ Some xs → length bs / WIDTH ≤ i → None ≡ slice_get xs i };
+
+    ghost each: { (bs : List ℕ) → list_all (λ i. is_some (row_at (WIDTH * i) bs)) (range_with_len 0 (length bs / WIDTH)) ≡ is_some (rows bs) };
+}
+
+// Whether so many bytes follow a place.
+fn holds(bytes: &[u8], at: usize, n: usize) -> bool
+    ensures { result ≡ nat_le (at + n) (length bytes.now) }
+{
+    n <= bytes.len() && at <= bytes.len() - n
+}
+
+// The units of a label.
+impl Row for u16 {
+    ghost use Rattle.std.proofs.Common.{rules};
+    ghost use Rattle.command_list.specs.RowLaws.{count_every, turn_every, end_every, each_every};
+
+    ghost WIDTH = { 2 };
+
+    const WIDTH: usize = 2;
+
+    ghost row_at = { λ at bs. Some (number_at 2 at bs) };
+
+    ghost rows = { λ bs. Some (every 2 bs) };
+
+    fn read(bytes: &[u8], at: usize) -> Option<u16> {
+        holds(bytes, at, 2).then(|| Wide::get(bytes, at))
+    }
+
+    ghost some = { Prim.search rules };
+
+    ghost counted = { count_every 2 };
+
+    ghost in_turn = { turn_every 2 };
+
+    ghost past = { end_every 2 };
+
+    ghost each = { each_every 2 };
+}
+
+// The handles of targets.
+impl Row for u64 {
+    ghost use Rattle.std.proofs.Common.{rules};
+    ghost use Rattle.command_list.specs.RowLaws.{count_every, turn_every, end_every, each_every};
+
+    ghost WIDTH = { 8 };
+
+    const WIDTH: usize = 8;
+
+    ghost row_at = { λ at bs. Some (number_at 8 at bs) };
+
+    ghost rows = { λ bs. Some (every 8 bs) };
+
+    fn read(bytes: &[u8], at: usize) -> Option<u64> {
+        holds(bytes, at, 8).then(|| Wide::get(bytes, at))
+    }
+
+    ghost some = { Prim.search rules };
+
+    ghost counted = { count_every 8 };
+
+    ghost in_turn = { turn_every 8 };
+
+    ghost past = { end_every 8 };
+
+    ghost each = { each_every 8 };
+}
+
+// The entries of a resource barrier, each of which begins with a type that is known.
+impl Row for Barrier {
+    ghost use Rattle.std.proofs.Common.{rules};
+    ghost use Rattle.command_list.specs.RowLaws.{count_entries, turn_entries, end_entries, each_entry};
+
+    ghost WIDTH = { 17 };
+
+    const WIDTH: usize = 17;
+
+    ghost row_at = { entry_at };
+
+    ghost rows = { λ bs. barriers (entry_numbers bs) };
+
+    fn read(bytes: &[u8], at: usize) -> Option<Barrier> {
+        if !holds(bytes, at, 17) {
+            return None;
+        }
+        let Ok(kind) = BarrierType::try_from(u8::get(bytes, at)) else {
+            return None;
+        };
+        Some(Barrier {
+            kind,
+            resource: Wide::get(bytes, at + 1),
+            subresource: Wide::get(bytes, at + 5),
+            before: Wide::get(bytes, at + 9),
+            after: Wide::get(bytes, at + 13),
+        })
+    }
+
+    ghost some = { Prim.search rules };
+
+    ghost counted = { count_entries };
+
+    ghost in_turn = { turn_entries };
+
+    ghost past = { end_entries };
+
+    ghost each = { each_entry };
+}
