@@ -4,7 +4,7 @@ use Rattle.std.specs.List.{flat_map}
 use Rattle.std.proofs.lemmas.List.{take_more, take_all, take_at, drop_at, drop-drop, flat_map_more, length-drop, take-append-drop, get_or-map, length-map}
 use Rattle.std.proofs.lemmas.Bool.{and_parts, and_from, false≢true}
 use Rattle.command_list.specs.declared.fault.Fault.{Fault}
-use Rattle.command_list.specs.declared.command.Command.{Command as Given}
+use Rattle.command_list.specs.Seen.{Given}
 use Rattle.command_list.specs.Commands.{Command, record_of, size, readable, framed, code_of, fields}
 use Rattle.command_list.specs.Files.{encoded, file, accepted}
 use Rattle.command_list.specs.Seen.{given_command}

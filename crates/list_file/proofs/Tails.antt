@@ -3,7 +3,7 @@ use Rattle.std.proofs.Common.{◌≡◌, ℕ, zero, suc, ◌+◌, ◌-◌, ◌<�
 use Rattle.std.proofs.lemmas.List.{drop-drop, length-drop, length_push, take_all, take_at, length-take-le}
 use Rattle.std.proofs.lemmas.Bool.{cond-true, cond-false, and_parts, eqb-true, leb-true, false≢true}
 use Rattle.command_list.specs.declared.fault.Fault.{Fault}
-use Rattle.command_list.specs.declared.record.Record.{Record}
+use Rattle.command_list.specs.Seen.{Record}
 use Rattle.command_list.specs.Commands.{Command, record_of, size, readable}
 use Rattle.command_list.specs.Decoding.{Front, ended, first, broken, front}
 use Rattle.command_list.specs.Files.{Verdict, accepted, refused, after, followed, records, has_version, file, is_accepted}

@@ -9,7 +9,7 @@ ghost use Rattle.list_file.specs.Passing.{Checked, Rewritten, ListSize, ListWrit
 use command_list::command::Command;
 use command_list::fault::{FULL, Fault};
 use command_list::reader::{MOST_BYTES, Reader};
-use list_writer::writer::{append, append_record, begin, size};
+use list_writer::writer::{Recordable, begin};
 
 // How many records a list file has, or its first refusal.
 pub fn check(file: &[u8]) -> Result<usize, Fault>
@@ -32,7 +32,7 @@ fn rewrite_all(file: &[u8], out: &mut [u8]) -> Result<(), Fault>
     let mut reader = Reader::open(file)?;
     let mut end = begin(out)?;
     while let Some(record) = reader.next()? {
-        end = append_record(out, end, record)?;
+        end = record.append_to(out, end)?;
     }
     Ok(())
 }
@@ -58,7 +58,7 @@ pub fn list_size(commands: &[Command]) -> Result<usize, Fault>
 {
     let mut total = 1;
     for command in commands {
-        total += size(*command)?;
+        total += command.size()?;
         if total > MOST_BYTES {
             return Err(FULL);
         }
@@ -75,7 +75,7 @@ fn write_all(commands: &[Command], bytes: &mut [u8]) -> Result<usize, Fault>
 {
     let mut end = begin(bytes)?;
     for command in commands {
-        end = append(bytes, end, *command)?;
+        end = command.append_to(bytes, end)?;
     }
     Ok(end)
 }

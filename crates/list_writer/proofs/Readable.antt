@@ -1,13 +1,15 @@
 -- What has a record that the reader takes, and what writing one leaves.
-use Rattle.std.proofs.Common.{◌≡◌, ℕ, suc, ◌+◌, ◌-◌, ◌<◌, ◌≤◌, Bool, true, false, ◌&&◌, eqb, ltb, leb, List, [], ◌∷◌, ◌++◌, length, get_or, take, drop, set, Ok, Err, Result, sym, refl, ap, ◌∙◌, ⊎_elim, append_assoc, arith, length-append}
-use Rattle.std.specs.List.{flat_map}
+use Rattle.std.proofs.Common.{Some, ◌≡◌, ℕ, suc, ◌+◌, ◌-◌, ◌<◌, ◌≤◌, Bool, true, false, ◌&&◌, eqb, ltb, leb, List, [], ◌∷◌, ◌++◌, length, take, drop, set, Ok, Err, Result, subst, sym, refl, ap, ◌∙◌, ⊎_elim, append_assoc, arith, length-append}
+use Rattle.std.specs.List.{flat_map, slice_get}
+use Rattle.std.specs.Option.{option_eq}
+use Rattle.command_list.specs.declared.code.Code.{Code}
 use Rattle.std.proofs.lemmas.List.{take_at, length-take-le}
 use Rattle.std.proofs.lemmas.Bool.{lt-ltb, le-ltb, le-leb, ltb-true, and_from, and_parts, cases_lt, and_left, lt-leb}
 use Rattle.command_list.specs.declared.fault.Fault.{Fault}
 use Rattle.command_list.specs.declared.command.Barrier.{Barrier}
 use Rattle.command_list.specs.declared.command.Fixed.{Fixed}
 use Rattle.command_list.specs.declared.command.Fixed.TheVariants as fixed
-use Rattle.command_list.specs.Numbers.{total}
+use Rattle.command_list.specs.Numbers.{Field, total}
 use Rattle.command_list.specs.Commands.{Command, BeginEvent, OMSetRenderTargets, ResourceBarrier, code_of, fields, framed, record_of, unit, handle, entry, ends_with_zero, in_range, readable}
 use Rattle.command_list.specs.Files.{file, records}
 use Rattle.command_list.specs.Decoding.{front}
@@ -17,16 +19,12 @@ use Rattle.list_writer.proofs.Rows.{length_bytes, total_entries}
 use Rattle.list_writer.proofs.Whole.{file_more}
 
 -- the last of some units
-pub last_zero : (us : List ℕ) → 0 < length us → eqb (get_or us (length us - 1) 0) 0 ≡ ends_with_zero us
-last_zero [] h = absurd (omega arith)
-last_zero (u ∷ []) h = refl
-last_zero (u ∷ v ∷ us) h =
+pub last_zero : (us : List ℕ) → option_eq eqb (slice_get us (length us - 1)) (Some 0) ≡ ends_with_zero us
+last_zero [] = refl
+last_zero (u ∷ []) = refl
+last_zero (u ∷ v ∷ us) =
     let e : length (u ∷ v ∷ us) - 1 ≡ suc (length (v ∷ us) - 1) = omega arith in
-    ap (λ n. eqb (get_or (u ∷ v ∷ us) n 0) 0) e ∙ last_zero (v ∷ us) (omega arith)
-
-pub no_last : (us : List ℕ) → length us ≤ 0 → ltb 0 (length us) ≡ ends_with_zero us
-no_last [] h = refl
-no_last (u ∷ us) h = absurd (omega arith)
+    ap (λ n. option_eq eqb (slice_get (u ∷ v ∷ us) n) (Some 0)) e ∙ last_zero (v ∷ us)
 
 -- a test of a number of entries is one of the bytes that they take
 and_same : (t x y : Bool) → (t ≡ true → x ≡ y) → (t && x) ≡ (t && y)
@@ -97,9 +95,13 @@ module _ (c : Command) (xs ys : List ℕ) (n m : ℕ) (r : readable c ≡ true) 
     reads = λ cs e. ap file front_part ∙ file_more (take n xs) cs c e (and_parts _ _ r).0 g.fit (let u = used in let d = g.ends in let w = g.within in omega arith);
   }
 
-pub appended : (c : Command) (xs ys : List ℕ) (n : ℕ) (a : Result ℕ Fault) → readable c ≡ true → Appended xs n (code_of c) (fields c) a ys → Written c xs n a ys
+appended : (c : Command) (xs ys : List ℕ) (n : ℕ) (a : Result ℕ Fault) → readable c ≡ true → Appended xs n (code_of c) (fields c) a ys → Written c xs n a ys
 appended c xs ys n (Ok m) r g = wrote c xs ys n m r g
 appended c xs ys n (Err f) r g = record { fault = g.fault; why = λ t l. (let h = g.less in omega arith); same = g.same }
+
+-- what was appended, as the record of a command of this code and these operands
+pub appended_as : (c : Command) (k : Code) (fs : List Field) (xs ys : List ℕ) (n : ℕ) (a : Result ℕ Fault) → readable c ≡ true → code_of c ≡ k → fields c ≡ fs → Appended xs n k fs a ys → Written c xs n a ys
+appended_as c k fs xs ys n a r p q g = appended c xs ys n a r (subst (λ j. Appended xs n j (fields c) a ys) (sym p) (subst (λ gs. Appended xs n k gs a ys) (sym q) g))
 
 pub readable_total : (c : Command) → readable c ≡ true → total (fields c) < 65535
 readable_total c r = ltb-true (total (fields c)) 65535 (and_parts _ _ r).1

@@ -1,5 +1,5 @@
 -- A command's record reads back as the command, and a record that is read is its command's own.
-use Rattle.std.proofs.Common.{◌≡◌, ℕ, zero, suc, ◌+◌, ◌*◌, ◌/◌, ◌%◌, ◌<◌, ◌≤◌, Bool, true, false, cond, ◌&&◌, eqb, ltb, ◌⊎◌, List, [], ◌∷◌, ◌++◌, length, get_or, Some, None, Option, sym, refl, ap, ◌∙◌, subst, ap₂, inl, inr, ⊎_elim, mul-pos, div-add-mod', arith}
+use Rattle.std.proofs.Common.{◌≡◌, ℕ, ◌+◌, ◌*◌, ◌/◌, ◌%◌, ◌<◌, ◌≤◌, Bool, true, false, ◌&&◌, eqb, ltb, List, [], ◌∷◌, length, get_or, Some, None, Option, sym, refl, ap, ◌∙◌, subst, ap₂, ⊎_elim, mul-pos, div-add-mod', arith}
 use native.Mathlib.Nat.{mul-mod_right, mul-div_right}
 use Rattle.std.specs.List.{flat_map}
 use Rattle.std.proofs.lemmas.Nat.{div-mul-add}
@@ -16,8 +16,10 @@ use Rattle.command_list.specs.Numbers.{Field, bytes, total, Fit, widths, values,
 use Rattle.command_list.specs.Commands.{Command, code_of, fields, unit, handle, entry, in_range, ends_with_zero, type_byte, flag_byte, kind_byte, special_byte, BeginEvent, EndEvent, SetDescriptorHeaps, SetRootSignature, SetPipelineState, IASetPrimitiveTopology, IASetVertexBuffers, SetRoot32BitConstant, SetRootDescriptorTable, SetRootConstantBufferView, OMSetRenderTargets, ClearRenderTargetView, RSSetViewports, RSSetScissorRects, ResourceBarrier, DrawInstanced, Dispatch, ExecuteIndirect}
 use Rattle.command_list.specs.Decoding.{shape, sum, length_right, repeated, widths_of, flag_of, kind_of, special_of, type_of, then, barriers, named, takes, wrong, checked, decode}
 use Rattle.command_list.proofs.Places.{number_1}
+use Rattle.list_writer.specs.EntryLaws.{widths_joined, values_units, values_handles, two_ways, entries_back}
 use Rattle.list_writer.proofs.Rows.{length_bytes, total_entries}
-use Rattle.command_list.proofs.Runs.{none_some, some_same, then_is, length_numbers, length_repeated, count_barriers, sum_repeated}
+use Rattle.command_list.specs.RowLaws.{some_same, then_is, length_numbers, length_repeated, count_barriers}
+use Rattle.command_list.proofs.Runs.{sum_repeated}
 use Rattle.list_writer.proofs.Bytewise.{numbers_bytes, bytes_numbers, Bytes}
 
 -- one law for every code: operands of the right length and widths, which name a command in range, are read as it
@@ -31,24 +33,6 @@ decode_by k fs c l w n r f =
     ∙ ap (λ vs. checked (named k vs)) (numbers_bytes fs f)
     ∙ ap checked n
     ∙ cond-true _ _ _ r
-
--- rows of equal entries
-module _ {X : Type 0} (row : X → List Field) (ws : List ℕ) (even : (x : X) → widths (row x) ≡ ws) where
-  pub widths_joined : (xs : List X) → widths (flat_map row xs) ≡ repeated (length xs) ws
-  widths_joined [] = refl
-  widths_joined (x ∷ xs) = widths_append (row x) (flat_map row xs) ∙ ap₂ (λ p q. p ++ q) (even x) (widths_joined xs)
-    where
-      widths_append : (fs gs : List Field) → widths (fs ++ gs) ≡ widths fs ++ widths gs
-      widths_append [] gs = refl
-      widths_append (f ∷ fs) gs = ap (λ l. f.width ∷ l) (widths_append fs gs)
-
-pub values_units : (us : List ℕ) → values (flat_map unit us) ≡ us
-values_units [] = refl
-values_units (u ∷ us) = ap (λ l. u ∷ l) (values_units us)
-
-pub values_handles : (hs : List ℕ) → values (flat_map handle hs) ≡ hs
-values_handles [] = refl
-values_handles (h ∷ hs) = ap (λ l. h ∷ l) (values_handles hs)
 
 type_byte_lem : (t : BarrierType) → type_of (type_byte t) ≡ Some t
 type_byte_lem Transition = refl
@@ -136,42 +120,16 @@ back_by k ws d c ops q w v l b e =
       wrote = bytes_numbers (fields d) 0 ops b (omega arith) (v ∙ ap (λ us. numbers us 0 ops) (sym w)) ∙ take_all (total (fields d)) ops (omega arith);
     })
 
--- a choice of two
-two_ways : {A : Type 0} (n a b : ℕ) (x y z : A) → cond (eqb n a) (Some x) (cond (eqb n b) (Some y) None) ≡ Some z → ((z ≡ x) × (n ≡ a)) ⊎ ((z ≡ y) × (n ≡ b))
-two_ways n a b x y z e =
-    ⊎_elim {A = eqb n a ≡ true} {B = eqb n a ≡ false}
-    (λ t. inl (sym (some_same (sym (cond-true _ _ _ t) ∙ e)), eqb-true n a t))
-    (λ f.
-    ⊎_elim {A = eqb n b ≡ true} {B = eqb n b ≡ false}
-    (λ t. inr (sym (some_same (sym (cond-true _ _ _ t) ∙ sym (cond-false _ _ _ f) ∙ e)), eqb-true n b t))
-    (λ g. absurd (none_some (sym (cond-false _ _ _ g) ∙ sym (cond-false _ _ _ f) ∙ e)))
-    (cases_Bool (eqb n b)))
-    (cases_Bool (eqb n a))
-
 flag_back : (n : ℕ) (on : Bool) → flag_of n ≡ Some on → flag_byte on ≡ n
 flag_back n on e = ⊎_elim (λ p. ap flag_byte p.0 ∙ sym p.1) (λ p. ap flag_byte p.0 ∙ sym p.1) (two_ways n 0 1 false true on e)
 
 kind_back : (n : ℕ) (h : Half) → kind_of n ≡ Some h → kind_byte h ≡ n
 kind_back n h e = ⊎_elim (λ p. ap kind_byte p.0 ∙ sym p.1) (λ p. ap kind_byte p.0 ∙ sym p.1) (two_ways n 0 2 Graphics Compute h e)
 
-type_back : (n : ℕ) (t : BarrierType) → type_of n ≡ Some t → type_byte t ≡ n
-type_back n t e = ⊎_elim (λ p. ap type_byte p.0 ∙ sym p.1) (λ p. ap type_byte p.0 ∙ sym p.1) (two_ways n 0 2 Transition Uav t e)
-
 special_back : (n : ℕ) → special_byte (special_of n) ≡ n
 special_back n =
     ⊎_elim {A = eqb n 255 ≡ true} {B = eqb n 255 ≡ false}
     (λ t. ap special_byte (cond-true _ _ _ t) ∙ sym (eqb-true n 255 t)) (λ f. ap special_byte (cond-false _ _ _ f)) (cases_Bool (eqb n 255))
-
--- the numbers of entries are those of the barriers that they name
-pub entries_back : (n at : ℕ) (ops : List ℕ) (es : List Barrier) → barriers (numbers (repeated n (1 ∷ 4 ∷ 4 ∷ 4 ∷ 4 ∷ [])) at ops) ≡ Some es
-    → values (flat_map entry es) ≡ numbers (repeated n (1 ∷ 4 ∷ 4 ∷ 4 ∷ 4 ∷ [])) at ops
-entries_back zero at ops es e = sym (ap (λ l. values (flat_map entry l)) (some_same e))
-entries_back (suc n) at ops es e =
-    let a = then_is (type_of (number_at 1 at ops)) _ es e in
-    let b = then_is (barriers (numbers (repeated n (1 ∷ 4 ∷ 4 ∷ 4 ∷ 4 ∷ [])) (at + 1 + 4 + 4 + 4 + 4) ops)) _ es a.2 in
-    let ih = entries_back n (at + 1 + 4 + 4 + 4 + 4) ops b.0 b.1 in
-    sym (ap (λ l. values (flat_map entry l)) (some_same b.2))
-    ∙ ap₂ (λ t l. t ∷ number_at 4 (at + 1) ops ∷ number_at 4 (at + 1 + 4) ops ∷ number_at 4 (at + 1 + 4 + 4) ops ∷ number_at 4 (at + 1 + 4 + 4 + 4) ops ∷ l) (type_back _ a.0 a.1) ih
 
 -- what a code and its operands have to be where they are read as a command
 takes_same : {c d : Command} → takes c ≡ takes d → c ≡ d

@@ -12,7 +12,7 @@ use Rattle.command_list.specs.Files.{Verdict, accepted, refused, after, followed
 use Rattle.list_writer.proofs.Rows.{length_bytes}
 use Rattle.list_writer.proofs.Bytewise.{number_fit, Bytes, bytes_drop, bytes_take}
 use Rattle.command_list.proofs.Fronts.{said, front_whole, front_within}
-use Rattle.command_list.proofs.Runs.{none_some, some_same}
+use Rattle.command_list.specs.RowLaws.{none_some, some_same}
 use Rattle.list_writer.proofs.Trips.{decoded, decode_back, decode_is}
 
 -- a code's byte names it, and no other byte does

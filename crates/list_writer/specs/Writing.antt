@@ -1,11 +1,12 @@
 -- What a writer leaves in the caller's bytes.
-use Rattle.std.specs.Prelude.{◌≡◌, ℕ, ◌+◌, ◌<◌, ◌≤◌, min, true, false, List, [], ◌∷◌, ◌++◌, length, take, drop, Ok, Err, Result}
+use Rattle.std.specs.Prelude.{Bool, Some, None, Option, IsTrue, ◌≡◌, ℕ, ◌+◌, ◌<◌, ◌≤◌, min, true, false, List, [], ◌∷◌, ◌++◌, length, take, drop, Ok, Err, Result}
 use Rattle.command_list.specs.declared.code.Code.{Code}
 use Rattle.command_list.specs.declared.fault.Fault.{Fault}
+use Rattle.command_list.specs.declared.command.Fixed.{Fixed}
 use Rattle.command_list.specs.Numbers.{Field, bytes, total, Fit}
-use Rattle.command_list.specs.Commands.{Command, framed, record_of, size, readable}
+use Rattle.command_list.specs.Commands.{Command, BeginEvent, OMSetRenderTargets, ResourceBarrier, framed, record_of, size, readable}
 use Rattle.command_list.specs.Files.{file, accepted}
-use Rattle.command_list.specs.Seen.{IsFault}
+use Rattle.command_list.specs.Seen.{IsFault, fixed_command}
 
 -- fs were written at the start of xs, which left ys; they took n bytes
 pub record Laid (fs : List Field) (xs ys : List ℕ) (n : ℕ) : Type 0 where
@@ -75,3 +76,14 @@ Begun xs (Err f) ys = Unbegun xs f ys
 abbrev pub Measured : Command → Result ℕ Fault → Type 0
 Measured c (Ok n) = (readable c ≡ true) × (n ≡ size c)
 Measured c (Err f) = (readable c ≡ false) × IsFault f 10 0
+
+-- a command of a fixed width, or one with a list among its operands
+abbrev pub has_list : Command → Bool
+has_list (BeginEvent us) = true
+has_list (OMSetRenderTargets hs) = true
+has_list (ResourceBarrier es) = true
+has_list c = false
+
+abbrev pub IsFixed : Option Fixed → Command → Type 0
+IsFixed (Some f) c = c ≡ fixed_command f
+IsFixed None c = IsTrue (has_list c)

@@ -1,33 +1,27 @@
-// Operand writers: each lays its number down at the start of the bytes that it is handed.
-ghost use Rattle.std.specs.Prelude.{◌≡◌, ℕ, ◌+◌, ◌*◌, ◌<◌, ◌≤◌, List, [], ◌∷◌, ◌++◌, length, refl};
-ghost use Rattle.std.specs.List.{flat_map};
-ghost use Rattle.command_list.specs.Numbers.{Field, field, total};
-ghost use Rattle.command_list.specs.Commands.{unit, handle, entry, type_byte};
+// Operand writers: each lays its numbers down at the start of the bytes that it is handed.
+ghost use Rattle.std.specs.Prelude.{◌≡◌, ℕ, ◌-◌, ◌*◌, ◌<◌, ◌≤◌, List, [], ◌∷◌, ◌++◌, length, take, drop, slice_index_or, Some};
+ghost use Rattle.std.specs.List.{flat_map, slice_get};
+ghost use Rattle.std.specs.Option.{unwrap_or};
+ghost use Rattle.command_list.specs.Numbers.{Field, field, total, widths, values, numbers};
+ghost use Rattle.command_list.specs.Commands.{entry};
 ghost use Rattle.list_writer.specs.Writing.{Laid};
 
-use command_list::command::{Barrier, BarrierType};
+use command_list::command::Barrier;
+use command_list::record::Rows;
+use command_list::row::Row;
 
 // A row of operands.
-pub trait Operands {
-    ghost row: { Self → List Field };
-
-    // How many bytes they take.
-    fn width(&self) -> usize
-        requires { total (row self.now) < 65535 }
-        ensures { result ≡ total (row self.now) };
+pub trait Operands: Copy {
+    ghost laid: { Self → List Field };
 
     // Writes them at the start of `out`, and says how many bytes they took.
     fn lay(self, out: &mut [u8]) -> usize
-        requires { total (row self) ≤ length out.old }
-        ensures { Laid (row self) out.old out.new result };
+        requires { total (laid self) ≤ length out.old }
+        ensures { Laid (laid self) out.old out.new result };
 }
 
 impl Operands for () {
-    ghost row = { λ _. [] };
-
-    fn width(&self) -> usize {
-        0
-    }
+    ghost laid = { λ _. [] };
 
     fn lay(self, _out: &mut [u8]) -> usize {
         0
@@ -35,11 +29,7 @@ impl Operands for () {
 }
 
 impl Operands for u8 {
-    ghost row = { λ b. field 1 b ∷ [] };
-
-    fn width(&self) -> usize {
-        1
-    }
+    ghost laid = { λ b. field 1 b ∷ [] };
 
     fn lay(self, out: &mut [u8]) -> usize {
         out[0] = self;
@@ -48,11 +38,7 @@ impl Operands for u8 {
 }
 
 impl Operands for u16 {
-    ghost row = { λ s. field 2 s ∷ [] };
-
-    fn width(&self) -> usize {
-        2
-    }
+    ghost laid = { λ s. field 2 s ∷ [] };
 
     fn lay(self, out: &mut [u8]) -> usize {
         out[0..2].copy_from_slice(&self.to_be_bytes());
@@ -61,11 +47,7 @@ impl Operands for u16 {
 }
 
 impl Operands for u32 {
-    ghost row = { λ w. field 4 w ∷ [] };
-
-    fn width(&self) -> usize {
-        4
-    }
+    ghost laid = { λ w. field 4 w ∷ [] };
 
     fn lay(self, out: &mut [u8]) -> usize {
         out[0..4].copy_from_slice(&self.to_be_bytes());
@@ -74,11 +56,7 @@ impl Operands for u32 {
 }
 
 impl Operands for u64 {
-    ghost row = { λ l. field 8 l ∷ [] };
-
-    fn width(&self) -> usize {
-        8
-    }
+    ghost laid = { λ l. field 8 l ∷ [] };
 
     fn lay(self, out: &mut [u8]) -> usize {
         out[0..8].copy_from_slice(&self.to_be_bytes());
@@ -86,13 +64,19 @@ impl Operands for u64 {
     }
 }
 
+impl Operands for Barrier {
+    ghost laid = { entry };
+
+    fn lay(self, out: &mut [u8]) -> usize {
+        let states = (self.before, self.after);
+        let resource = (self.resource, (self.subresource, states));
+        (u8::from(self.kind), resource).lay(out)
+    }
+}
+
 // One row behind another.
 impl<A: Operands, B: Operands> Operands for (A, B) {
-    ghost row = { λ p. A.Operands.row p.0 ++ B.Operands.row p.1 };
-
-    fn width(&self) -> usize {
-        self.0.width() + self.1.width()
-    }
+    ghost laid = { λ p. A.laid p.0 ++ B.laid p.1 };
 
     fn lay(self, out: &mut [u8]) -> usize {
         let (a, b) = self;
@@ -101,113 +85,118 @@ impl<A: Operands, B: Operands> Operands for (A, B) {
     }
 }
 
-// What a list of operands is made of: entries of one width.
-pub trait Entry {
-    ghost row: { Self → List Field };
+// What a list of operands is made of.
+pub trait Entry: Operands + Row {
+    // Every entry has the width of a row.
+    ghost even: { (x : Self) → total (Self.laid x) ≡ Self.WIDTH };
 
-    ghost wide: { ℕ };
-
-    // Every entry has that width.
-    ghost even: { (x : Self) → total (row x) ≡ wide };
-
-    fn entry_width() -> usize
-        ensures { result ≡ wide };
-
-    // Writes an entry at the start of `out`.
-    fn lay_entry(self, out: &mut [u8]) -> usize
-        requires { wide ≤ length out.old }
-        ensures { Laid (row self) out.old out.new result };
-}
-
-impl Entry for u8 {
-    ghost row = { λ b. field 1 b ∷ [] };
-
-    ghost wide = { 1 };
-
-    ghost even = { λ b. refl };
-
-    fn entry_width() -> usize {
-        1
-    }
-
-    fn lay_entry(self, out: &mut [u8]) -> usize {
-        self.lay(out)
-    }
+    // Entries that were read have the numbers of the bytes that they were read from.
+    ghost as_read: { (bs : List ℕ) (xs : List Self) → Self.rows bs ≡ Some xs → values (flat_map Self.laid xs) ≡ numbers (widths (flat_map Self.laid xs)) 0 bs };
 }
 
 impl Entry for u16 {
-    ghost row = { unit };
+    ghost use Rattle.list_writer.specs.EntryLaws.{unit_even, units_read};
 
-    ghost wide = { 2 };
+    ghost even = { unit_even };
 
-    ghost even = { λ u. refl };
-
-    fn entry_width() -> usize {
-        2
-    }
-
-    fn lay_entry(self, out: &mut [u8]) -> usize {
-        self.lay(out)
-    }
+    ghost as_read = { units_read };
 }
 
 impl Entry for u64 {
-    ghost row = { handle };
+    ghost use Rattle.list_writer.specs.EntryLaws.{handle_even, handles_read};
 
-    ghost wide = { 8 };
+    ghost even = { handle_even };
 
-    ghost even = { λ h. refl };
-
-    fn entry_width() -> usize {
-        8
-    }
-
-    fn lay_entry(self, out: &mut [u8]) -> usize {
-        self.lay(out)
-    }
-}
-
-// The byte of a barrier's type.
-fn type_byte(kind: BarrierType) -> u8
-    ensures { result ≡ type_byte kind }
-{
-    match kind {
-        BarrierType::Transition => 0,
-        BarrierType::Uav => 2,
-    }
+    ghost as_read = { handles_read };
 }
 
 impl Entry for Barrier {
-    ghost row = { entry };
+    ghost use Rattle.list_writer.specs.EntryLaws.{entry_even, entries_read};
 
-    ghost wide = { 17 };
+    ghost even = { entry_even };
 
-    ghost even = { λ b. refl };
+    ghost as_read = { entries_read };
+}
 
-    fn entry_width() -> usize {
-        17
-    }
+// A list among the operands: as it is given, or as it was read.
+pub trait Listing<T: Entry>: Operands {
+    ghost items: { Self → List T };
 
-    fn lay_entry(self, out: &mut [u8]) -> usize {
-        let states = (self.before, self.after);
-        let resource = (self.resource, (self.subresource, states));
-        (type_byte(self.kind), resource).lay(out)
-    }
+    fn count(&self) -> usize
+        ensures { result ≡ length (items self.now) };
+
+    fn last(&self) -> Option<T>
+        ensures { result ≡ slice_get (items self.now) (length (items self.now) - 1) };
+
+    // Its row is made of the entries' rows.
+    ghost joined: { (s : Self) → Self.laid s ≡ flat_map T.laid (items s) };
 }
 
 // Entries one behind the other.
-impl<E: Entry + Copy> Operands for &[E] {
-    ghost row = { λ s. flat_map E.Entry.row s.now };
-
-    fn width(&self) -> usize {
-        E::entry_width() * self.len()
-    }
+impl<T: Entry> Operands for &[T] {
+    ghost laid = { λ s. flat_map T.laid s.now };
 
     fn lay(self, out: &mut [u8]) -> usize {
         let mut at = 0;
         for x in self {
-            at += (*x).lay_entry(&mut out[at..]);
+            at += (*x).lay(&mut out[at..]);
         }
         at
     }
+}
+
+impl<T: Entry> Listing<T> for &[T] {
+    ghost use Rattle.std.specs.Prelude.{refl};
+
+    ghost items = { λ s. s.now };
+
+    fn count(&self) -> usize {
+        self.len()
+    }
+
+    fn last(&self) -> Option<T> {
+        <[T]>::last(self).copied()
+    }
+
+    ghost joined = { λ s. refl };
+}
+
+// Lays the front of some bytes down as it is.
+fn lay_front(bytes: &[u8], n: usize, out: &mut [u8])
+    requires within { n ≤ length bytes.now }
+    requires room { n ≤ length out.old }
+    ensures front { out.new ≡ take n bytes.now ++ drop n out.old }
+    ensures ranged { (i : ℕ) → slice_index_or bytes.now i 0 < 256 }
+{
+    out[0..n].copy_from_slice(&bytes[0..n]);
+}
+
+// Rows of a file are laid down as the bytes that they were read from; nothing where one is no row.
+impl<T: Entry> Operands for Rows<'_, T> {
+    ghost laid = { λ s. flat_map T.laid (unwrap_or (T.rows s.bytes.now) []) };
+
+    fn lay(self, out: &mut [u8]) -> usize {
+        let n = T::WIDTH * self.count();
+        lay_front(self.bytes, n, out);
+        n
+    }
+}
+
+impl<T: Entry> Listing<T> for Rows<'_, T> {
+    ghost use Rattle.std.specs.Prelude.{refl};
+
+    ghost items = { λ s. unwrap_or (T.rows s.bytes.now) [] };
+
+    fn count(&self) -> usize {
+        if self.known() { self.len() } else { 0 }
+    }
+
+    fn last(&self) -> Option<T> {
+        match self.count() {
+            0 => None,
+            n => self.get(n - 1),
+        }
+    }
+
+    ghost joined = { λ s. refl };
 }

@@ -25,7 +25,7 @@ returns-in_err-record c =
 pub returns-in_err-end-2 : goal.returns-in_err-end-2
 returns-in_err-end-2 c =
     absurd (not_unwritten _ _ _ c.loop-record.invariant.2 _ _ (λ i. omega (arith, c.type_inv.file i)) (some_step _ _ _ _ _ _ c.in_ok-record.ensures.gives c.in-Some.is c.loop-record.invariant.0) _ _
-    (subst (λ n. Unwritten (command_of c.in-Some.record) c.loop-record.out n c.in_err-end-2.field-0.0 c.append_record.new.bytes) c.loop-record.invariant.1 c.in_err-end-2.ensures))
+    (subst (λ n. Unwritten (command_of c.in-Some.record) c.loop-record.out n c.in_err-end-2.field-0.0 c.append_to.new.bytes) c.loop-record.invariant.1 c.in_err-end-2.ensures))
 
 pub loop-record-smaller : goal.loop-record-smaller
 loop-record-smaller c =
@@ -35,7 +35,7 @@ pub loop-record-preserved : goal.loop-record-preserved
 loop-record-preserved c =
     let a =
     again_more _ _ _ c.loop-record.invariant.2 _ _ (λ i. omega (arith, c.type_inv.file i)) (some_step _ _ _ _ _ _ c.in_ok-record.ensures.gives c.in-Some.is c.loop-record.invariant.0) _ _
-    (subst (λ n. Wrote (command_of c.in-Some.record) c.loop-record.out n c.in_ok-end-2.end c.append_record.new.bytes) c.loop-record.invariant.1 c.in_ok-end-2.ensures) in
+    (subst (λ n. Wrote (command_of c.in-Some.record) c.loop-record.out n c.in_ok-end-2.end c.append_to.new.bytes) c.loop-record.invariant.1 c.in_ok-end-2.ensures) in
     (c.in_ok-record.ensures.same ∙ c.loop-record.invariant.0, a.0, a.1)
 
 pub returns : goal.returns

@@ -1,5 +1,5 @@
 use Rattle.std.proofs.Common.{◌≡◌, sym, ap, ◌∙◌}
-use Rattle.command_list.specs.declared.record.Record.{Record}
+use Rattle.command_list.specs.Seen.{Record}
 use Rattle.command_list.specs.Seen.{command_of}
 use Rattle.device.specs.Devices.{Device, step}
 use Rattle.board.specs.declared.state.State.{State}

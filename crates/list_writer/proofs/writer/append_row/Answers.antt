@@ -1,7 +1,7 @@
-use Rattle.std.proofs.Common.{◌+◌, ap, arith}
+use Rattle.std.proofs.Common.{arith}
 use Rattle.list_writer.proofs.Growing.{grew}
 use Rattle.list_writer.proofs.writer.append_row.Goals as goal
 
 pub returns : goal.returns
 returns g c =
-    grew _ _ _ _ _ _ _ _ c.byte.ensures (ap (λ w. 3 + w) c.width-size.ensures) (omega (arith, c.if-room-end.false)) c.lay.ensures
+    grew _ _ _ _ _ _ _ _ c.from.ensures c.requires.size (omega (arith, c.if-room-end.false)) c.lay.ensures

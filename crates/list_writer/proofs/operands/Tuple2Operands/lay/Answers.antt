@@ -3,7 +3,7 @@ use Rattle.list_writer.proofs.Rows.{total_append, lay_then, laid_le, pair_room}
 use Rattle.list_writer.proofs.operands.Tuple2Operands.lay.Goals as goal
 
 pub lay-n-requires : goal.lay-n-requires
-lay-n-requires g c = omega (arith, c.requires, total_append (g.A.Operands.row c.args.self.0) (g.B.Operands.row c.args.self.1))
+lay-n-requires g c = omega (arith, c.requires, total_append (g.A.Operands.laid c.args.self.0) (g.B.Operands.laid c.args.self.1))
 
 pub slice_bounds-lay-count : goal.slice_bounds-lay-count
 slice_bounds-lay-count g c = laid_le _ _ _ _ c.lay-n.ensures
@@ -12,10 +12,10 @@ pub slice_bounds-lay-start : goal.slice_bounds-lay-start
 slice_bounds-lay-start g c = laid_le _ _ _ _ c.lay-n.ensures
 
 pub lay-requires : goal.lay-requires
-lay-requires g c = pair_room _ (g.B.Operands.row c.args.self.1) _ _ _ c.requires c.lay-n.ensures
+lay-requires g c = pair_room _ (g.B.Operands.laid c.args.self.1) _ _ _ c.requires c.lay-n.ensures
 
 pub overflow_add-result : goal.overflow_add-result
-overflow_add-result g c = omega (arith, c.requires, c.lay-n.ensures.long, c.lay.ensures.long, c.type_inv.out 0, total_append (g.A.Operands.row c.args.self.0) (g.B.Operands.row c.args.self.1))
+overflow_add-result g c = omega (arith, c.requires, c.lay-n.ensures.long, c.lay.ensures.long, c.type_inv.out 0, total_append (g.A.Operands.laid c.args.self.0) (g.B.Operands.laid c.args.self.1))
 
 pub returns : goal.returns
-returns g c = lay_then _ _ _ _ _ _ _ c.lay-n.ensures (omega (arith, c.requires, c.lay-n.ensures.long, total_append (g.A.Operands.row c.args.self.0) (g.B.Operands.row c.args.self.1))) c.lay.ensures
+returns g c = lay_then _ _ _ _ _ _ _ c.lay-n.ensures (omega (arith, c.requires, c.lay-n.ensures.long, total_append (g.A.Operands.laid c.args.self.0) (g.B.Operands.laid c.args.self.1))) c.lay.ensures

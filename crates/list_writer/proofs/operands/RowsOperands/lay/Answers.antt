@@ -1,0 +1,26 @@
+use Rattle.std.proofs.Common.{◌*◌, [], unwrap_or, ap₂, arith}
+use Rattle.list_writer.proofs.Rows.{total_entries}
+use Rattle.list_writer.proofs.Parts.{rows_within, rows_laid}
+use Rattle.list_writer.proofs.operands.RowsOperands.lay.Goals as goal
+
+pub overflow_mul-n : goal.overflow_mul-n
+overflow_mul-n g c =
+    let rows = g.T.Row.rows c.args.self.bytes.now in
+    let n = ap₂ (λ w k. w * k) c.WIDTH.ensures c.count.ensures in
+    omega (arith, n, rows_within g.T.Row.WIDTH rows _ (g.met.T.Row.counted c.args.self.bytes.now))
+
+pub lay_front-requires : goal.lay_front-requires
+lay_front-requires g c =
+    let rows = g.T.Row.rows c.args.self.bytes.now in
+    let n = ap₂ (λ w k. w * k) c.WIDTH.ensures c.count.ensures in
+    record {
+      within = omega (arith, n, rows_within g.T.Row.WIDTH rows _ (g.met.T.Row.counted c.args.self.bytes.now));
+      room = omega (arith, n, c.requires, total_entries g.T.Operands.laid g.T.Row.WIDTH g.met.T.Entry.even (unwrap_or rows []));
+    }
+
+pub returns : goal.returns
+returns g c =
+    let rows = g.T.Row.rows c.args.self.bytes.now in
+    let n = ap₂ (λ w k. w * k) c.WIDTH.ensures c.count.ensures in
+    rows_laid g.T.Operands.laid g.T.Row.WIDTH g.met.T.Entry.even rows c.args.self.bytes.now _ _ _ c.lay_front.ensures.ranged (g.met.T.Entry.as_read c.args.self.bytes.now) n
+    (omega (arith, n, rows_within g.T.Row.WIDTH rows _ (g.met.T.Row.counted c.args.self.bytes.now))) c.lay_front.ensures.front
