@@ -1,13 +1,10 @@
 // A recorder with an allowance of bytes of its own.
-ghost use Rattle.std.specs.Prelude.{◌≡◌, ◌<◌, ◌≤◌, MatchResult};
-ghost use Rattle.command_list.specs.Seen.{IsFault};
+ghost use Rattle.std.specs.Prelude.{◌≡◌};
 ghost use Rattle.device.specs.Meaning.{Anew, rationed};
 
-use crate::recorder::Recorder;
-use command_list::command::{Barrier, Command, Fixed};
-use command_list::fault::{FULL, Fault};
-use command_list::record::Record;
-use list_writer::writer::{size, size_fixed, size_record};
+use crate::recorder::{Recorder, fitting};
+use command_list::fault::Fault;
+use list_writer::writer::Recordable;
 
 #[derive(Drop)]
 pub struct Ration<R> {
@@ -42,19 +39,6 @@ impl<R: Recorder> Ration<R> {
     }
 }
 
-impl<R> Ration<R> {
-    // A size that the allowance still has.
-    fn allowed(&self, size: usize) -> Result<usize, Fault>
-        ensures { MatchResult result (λ n. (n ≡ size) × (size ≤ self.now.rest)) (λ f. IsFault f 10 0 × (self.now.rest < size)) }
-    {
-        if self.rest < size {
-            Err(FULL)
-        } else {
-            Ok(size)
-        }
-    }
-}
-
 impl<R: Recorder> Recorder for Ration<R> {
     ghost meaning = { λ s. rationed s.rest s.most (R.Recorder.meaning s.below) };
 
@@ -67,37 +51,9 @@ impl<R: Recorder> Recorder for Ration<R> {
         self.rest = self.most;
     }
 
-    fn record(&mut self, fixed: Fixed) -> Result<(), Fault> {
-        let bytes = self.allowed(size_fixed(fixed)?)?;
-        self.below.record(fixed)?;
-        self.rest -= bytes;
-        Ok(())
-    }
-
-    fn replay(&mut self, record: Record) -> Result<(), Fault> {
-        let bytes = self.allowed(size_record(record)?)?;
-        self.below.replay(record)?;
-        self.rest -= bytes;
-        Ok(())
-    }
-
-    fn begin_event(&mut self, label: &[u16]) -> Result<(), Fault> {
-        let bytes = self.allowed(size(Command::BeginEvent(label))?)?;
-        self.below.begin_event(label)?;
-        self.rest -= bytes;
-        Ok(())
-    }
-
-    fn om_set_render_targets(&mut self, targets: &[u64]) -> Result<(), Fault> {
-        let bytes = self.allowed(size(Command::OMSetRenderTargets(targets))?)?;
-        self.below.om_set_render_targets(targets)?;
-        self.rest -= bytes;
-        Ok(())
-    }
-
-    fn resource_barrier(&mut self, barriers: &[Barrier]) -> Result<(), Fault> {
-        let bytes = self.allowed(size(Command::ResourceBarrier(barriers))?)?;
-        self.below.resource_barrier(barriers)?;
+    fn record<C: Recordable>(&mut self, command: C) -> Result<(), Fault> {
+        let bytes = fitting(command.size()?, self.rest)?;
+        self.below.record(command)?;
         self.rest -= bytes;
         Ok(())
     }

@@ -2,12 +2,12 @@
 ghost use Rattle.std.specs.Prelude.{◌≡◌, ◌<◌, ◌≤◌, MatchResult, slice_index};
 ghost use Rattle.command_list.specs.declared.command.Half.TheVariants.{Graphics, Compute};
 ghost use Rattle.command_list.specs.Commands.{BeginEvent, EndEvent, SetDescriptorHeaps, SetRootSignature, SetPipelineState, IASetPrimitiveTopology, IASetVertexBuffers, SetRoot32BitConstant, SetRootDescriptorTable, SetRootConstantBufferView, OMSetRenderTargets, ClearRenderTargetView, RSSetViewports, RSSetScissorRects, ResourceBarrier, DrawInstanced, Dispatch, ExecuteIndirect};
-ghost use Rattle.command_list.specs.Seen.{IsFault, command_of, fixed_command};
+ghost use Rattle.command_list.specs.Seen.{IsFault, fixed_command};
 ghost use Rattle.device.specs.Meaning.{Meaning, Asked, Anew};
 
-use command_list::command::{Barrier, Fixed, Half};
+use command_list::command::{Barrier, Command, Fixed, Half};
 use command_list::fault::{FULL, Fault};
-use command_list::record::Record;
+use list_writer::writer::Recordable;
 
 // A size that a space has.
 pub fn fitting(size: usize, space: usize) -> Result<usize, Fault>
@@ -16,7 +16,8 @@ pub fn fitting(size: usize, space: usize) -> Result<usize, Fault>
     if space < size { Err(FULL) } else { Ok(size) }
 }
 
-// The commands that each half has for itself.
+// The commands that each half has for itself. The list file has a code for each half, and the trait a
+// function for each code: these pairs are kept as they are, over one maker for both.
 fn root_signature(half: Half, signature: u32) -> Fixed
     ensures { fixed_command result ≡ SetRootSignature half signature }
 {
@@ -67,17 +68,16 @@ pub trait Recorder {
     fn start_anew(&mut self)
         ensures { Anew (meaning self.old) (meaning self.new) };
 
-    // Any command of a fixed width.
-    fn record(&mut self, fixed: Fixed) -> Result<(), Fault>
-        ensures { Asked (meaning self.old) (fixed_command fixed) result (meaning self.new) };
-
-    // A record that was read.
-    fn replay(&mut self, record: Record) -> Result<(), Fault>
-        ensures { Asked (meaning self.old) (command_of «record».entry) result (meaning self.new) };
+    // Any command, as it is given or as it was read.
+    fn record<C: Recordable>(&mut self, command: C) -> Result<(), Fault>
+        ensures { Asked (meaning self.old) (C.says command) result (meaning self.new) };
 
     // Code 1.
     fn begin_event(&mut self, label: &[u16]) -> Result<(), Fault>
-        ensures { Asked (meaning self.old) (BeginEvent label.now) result (meaning self.new) };
+        ensures { Asked (meaning self.old) (BeginEvent label.now) result (meaning self.new) }
+    {
+        self.record(Command::BeginEvent(label))
+    }
 
     // Code 2.
     fn end_event(&mut self) -> Result<(), Fault>
@@ -197,7 +197,10 @@ pub trait Recorder {
 
     // Code 16.
     fn om_set_render_targets(&mut self, targets: &[u64]) -> Result<(), Fault>
-        ensures { Asked (meaning self.old) (OMSetRenderTargets targets.now) result (meaning self.new) };
+        ensures { Asked (meaning self.old) (OMSetRenderTargets targets.now) result (meaning self.new) }
+    {
+        self.record(Command::OMSetRenderTargets(targets))
+    }
 
     // Code 17.
     fn clear_render_target_view(&mut self, target: u64, colour: [u32; 4]) -> Result<(), Fault>
@@ -233,7 +236,10 @@ pub trait Recorder {
 
     // Code 22.
     fn resource_barrier(&mut self, barriers: &[Barrier]) -> Result<(), Fault>
-        ensures { Asked (meaning self.old) (ResourceBarrier barriers.now) result (meaning self.new) };
+        ensures { Asked (meaning self.old) (ResourceBarrier barriers.now) result (meaning self.new) }
+    {
+        self.record(Command::ResourceBarrier(barriers))
+    }
 
     // Code 28.
     fn draw_instanced(

@@ -1,17 +1,16 @@
 -- What one record more means.
-use Rattle.std.proofs.Common.{◌≡◌, ℕ, zero, suc, ◌-◌, ◌<◌, ◌≤◌, true, false, ltb, leb, ◌⊎◌, List, [], ◌∷◌, ◌++◌, length, take, drop, set, Some, Ok, Err, Result, sym, refl, ap, ◌∙◌, ⊎_elim, arith, length-append, length-set}
-use Rattle.std.proofs.lemmas.List.{length-take-le, length-drop}
-use Rattle.std.proofs.lemmas.Bool.{lt-ltb, ltb-false, false≢true, cond-true, cond-false, le-leb, lt-leb, and_parts}
-use Rattle.command_list.specs.declared.fault.Fault.{Fault}
+use Rattle.std.proofs.Common.{◌≡◌, ℕ, zero, suc, ◌-◌, ◌<◌, ◌≤◌, true, false, ltb, leb, ◌⊎◌, List, [], ◌∷◌, ◌++◌, length, take, drop, Some, sym, refl, ap, ◌∙◌, ⊎_elim, arith, length-append, length-drop, inl, inr}
+use Rattle.std.proofs.lemmas.List.{length-take-le}
+use Rattle.std.proofs.lemmas.Bool.{cases_lt, lt-ltb, ltb-false, false≢true, cond-true, cond-false, le-leb, lt-leb, and_parts}
 use Rattle.command_list.specs.Commands.{Command, record_of, framed, code_of, fields}
 use Rattle.command_list.specs.Decoding.{front}
 use Rattle.command_list.specs.Files.{Verdict, accepted, refused, file, records, has_version, is_accepted}
-use Rattle.list_writer.specs.Writing.{Wrote}
+use Rattle.list_writer.specs.Writing.{Wrote, Began}
 use Rattle.list_writer.proofs.Rows.{length_bytes}
 use Rattle.list_writer.proofs.Whole.{file_is}
 use Rattle.device.specs.Devices.{Device, play, step, start}
-use Rattle.device.specs.Meaning.{Taken, Asked, Anew}
-use Rattle.list_bytes.specs.Listed.{is_whole, commands_in, listed, Opened, room_for, Added}
+use Rattle.device.specs.Meaning.{Taken, Anew}
+use Rattle.list_bytes.specs.Listed.{is_whole, commands_in, listed, Opened, room_for}
 
 pub play_more : (cs : List Command) (c : Command) (d : Device) → play (cs ++ (c ∷ [])) d ≡ step c (play cs d)
 play_more [] c d = refl
@@ -65,22 +64,6 @@ module _ (c : Command) (xs ys : List ℕ) (n m : ℕ) (w : is_whole xs n ≡ ltb
     };
   }
 
--- what a call of list bytes owes, from what was appended
-pub added_asked : (c : Command) (xs ys : List ℕ) (n m : ℕ) (r : Result Unit Fault) → n ≤ length xs → length xs ≤ 65536 → is_whole xs n ≡ ltb 0 (length xs) → Added c xs n r m ys → Asked (listed xs n) c r (listed ys m)
-added_asked c xs ys n m (Ok u) h s w a = listed_more c xs ys n m w a
-added_asked c xs ys n m (Err f) h s w a = record {
-  fault = a.0.fault;
-  why = λ t l. a.0.why t (omega arith);
-  same = (λ i. listed (a.0.same i) (a.1 i));
-}
-
-pub added_sound : (c : Command) (xs ys : List ℕ) (n m : ℕ) (r : Result Unit Fault) → n ≤ length xs → length xs ≤ 65536 → is_whole xs n ≡ ltb 0 (length xs) → Added c xs n r m ys →
-    record { within : m ≤ length ys; small : length ys ≤ 65536; whole : is_whole ys m ≡ ltb 0 (length ys) }
-added_sound c xs ys n m (Ok u) h s w a = record { within = still_within c xs ys n m w a; small = still_small c xs ys n m w a s; whole = still_whole c xs ys n m w a }
-added_sound c xs ys n m (Err f) h s w a =
-    let e = ap length a.0.same in
-    record { within = omega (arith, a.1); small = omega arith; whole = (λ i. is_whole (a.0.same i) (a.1 i)) ∙ w ∙ ap (ltb 0) (sym e) }
-
 -- a list file begins with its version, which alone is an empty list file
 version_only : (xs : List ℕ) (n : ℕ) → 0 < n → is_accepted (file (take n xs)) ≡ true → file (take 1 xs) ≡ accepted []
 unfolding file records front
@@ -115,19 +98,23 @@ module _ (xs : List ℕ) (n : ℕ) (w : is_whole xs n ≡ ltb 0 (length xs)) whe
       let e : commands_in (file (take n xs)) ≡ [] = ap (λ k. commands_in (file (take k xs))) none in
       record { device = ap (λ cs. play cs start) e; space = omega arith; made = refl; shown = ap Some e }
 
-version_first : (xs : List ℕ) → 0 < length xs → file (take 1 (set xs 0 1)) ≡ accepted []
-unfolding file records front
-version_first [] h = absurd (omega arith)
-version_first (x ∷ xs) h = refl
+-- a list that was begun
+pub began_whole : (xs : List ℕ) (n : ℕ) (ys : List ℕ) → Began xs n ys → is_whole ys n ≡ ltb 0 (length ys)
+began_whole xs n ys g = ap is_accepted g.reads ∙ sym (lt-ltb 0 (length ys) (let l = ap length g.wrote in omega arith))
 
-pub opened_whole : (xs : List ℕ) → 0 < length xs → is_whole (set xs 0 1) 1 ≡ ltb 0 (length (set xs 0 1))
-opened_whole xs h = ap is_accepted (version_first xs h) ∙ sym (lt-ltb 0 (length (set xs 0 1)) (simp length-set h))
+pub began_long : (xs : List ℕ) (n : ℕ) (ys : List ℕ) → Began xs n ys → length ys ≡ length xs
+began_long xs n ys g = ap length g.wrote ∙ simp length-drop (omega (arith, g.some))
 
-pub opened_some : (xs : List ℕ) → 0 < length xs → length xs ≤ 65536 → Opened (length xs) (listed (set xs 0 1) 1)
-opened_some xs h s =
-    let e : commands_in (file (take 1 (set xs 0 1))) ≡ [] = ap commands_in (version_first xs h) in
-    let room : length (set xs 0 1) - 1 ≡ room_for (length xs) = ap (λ l. l - 1) (length-set xs 0 1) ∙ sym (cond-true (leb (length xs) 65536) _ _ (le-leb _ 65536 s)) in
-    record { device = ap (λ cs. play cs start) e; space = room; made = room; shown = ap Some e }
+pub began_opened : (xs : List ℕ) (n : ℕ) (ys : List ℕ) → Began xs n ys → Opened (length xs) (listed ys n)
+began_opened xs n ys g =
+    let e : commands_in (file (take n ys)) ≡ [] = ap commands_in g.reads in
+    let room : length ys - 1 ≡ room_for (length xs) = ap (λ l. l - 1) (began_long xs n ys g) ∙ sym (cond-true (leb (length xs) 65536) _ _ (le-leb _ 65536 g.short)) in
+    record { device = ap (λ cs. play cs start) e; space = ap (λ k. length ys - k) g.ends ∙ room; made = room; shown = ap Some e }
+
+-- none could be begun
+pub unbegun_none : (n : ℕ) → (0 < n → n ≤ 65536 → ⊥) → (n ≡ 0) ⊎ (65536 < n)
+unbegun_none zero h = inl refl
+unbegun_none (suc n) h = ⊎_elim {A = 65536 < suc n} {B = suc n ≤ 65536} (λ l. inr l) (λ l. absurd (h (omega arith) l)) (cases_lt 65536 (suc n))
 
 pub opened_none : (n : ℕ) → ((n ≡ 0) ⊎ (65536 < n)) → Opened n (listed [] 0)
 unfolding file

@@ -1,9 +1,7 @@
 -- What list bytes mean: it is read off the bytes themselves.
-use Rattle.std.specs.Prelude.{◌≡◌, ℕ, ◌-◌, Bool, cond, List, [], length, take, Some, Ok, Err, Result, nat_le}
-use Rattle.command_list.specs.declared.fault.Fault.{Fault}
+use Rattle.std.specs.Prelude.{◌≡◌, ℕ, ◌-◌, Bool, cond, List, [], length, take, Some, nat_le}
 use Rattle.command_list.specs.Commands.{Command}
 use Rattle.command_list.specs.Files.{Verdict, accepted, refused, file, is_accepted}
-use Rattle.list_writer.specs.Writing.{Wrote, Unwritten}
 use Rattle.device.specs.Devices.{play, start}
 use Rattle.device.specs.Meaning.{Meaning}
 
@@ -34,8 +32,3 @@ pub record Opened (n : ℕ) (m : Meaning) : Type 0 where
   pub space : m.space ≡ room_for n
   pub made : m.made ≡ room_for n
   pub shown : m.shown ≡ Some []
-
--- a command was appended behind the first n bytes, or not; m of them are in use then
-abbrev pub Added : Command → List ℕ → ℕ → Result Unit Fault → ℕ → List ℕ → Type 0
-Added c xs n (Ok u) m ys = Wrote c xs n m ys
-Added c xs n (Err f) m ys = Unwritten c xs n f ys × (m ≡ n)

@@ -1,19 +1,21 @@
-use Rattle.std.proofs.Common.{arith, length-set}
-use Rattle.list_bytes.proofs.Listing.{opened_whole, opened_some, none_whole}
+use Rattle.std.proofs.Common.{arith}
+use Rattle.list_bytes.proofs.Listing.{began_whole, began_long, began_opened, opened_none, none_whole, unbegun_none}
 use Rattle.list_bytes.proofs.ListBytes.new.Goals as goal
 
 pub invariant_of-result : goal.invariant_of-result
 invariant_of-result c = record { within = omega arith; small = omega arith; whole = none_whole }
 
+pub returns-in_default : goal.returns-in_default
+returns-in_default c = opened_none _ (unbegun_none _ c.in_default.ensures.why)
+
 pub invariant_of-result-2 : goal.invariant_of-result-2
 invariant_of-result-2 c =
-    let bs = c.args.bytes.now in
-    let l = length-set bs 0 1 in
+    let b = c.in-Ok.ensures in
     record {
-      within = omega (arith, c.if-bytes-eq0.false);
-      small = omega (arith, c.if-bytes-gt-MOST_BYTES.false);
-      whole = opened_whole bs (omega (arith, c.if-bytes-eq0.false));
+      within = omega (arith, b.some, b.ends, began_long _ _ _ b);
+      small = omega (arith, b.short, began_long _ _ _ b);
+      whole = began_whole _ _ _ b;
     }
 
 pub returns : goal.returns
-returns c = opened_some _ (omega (arith, c.if-bytes-eq0.false)) c.if-bytes-gt-MOST_BYTES.false
+returns c = began_opened _ _ _ c.in-Ok.ensures

@@ -1,9 +1,15 @@
-use Rattle.command_list.specs.Seen.{fixed_command}
-use Rattle.list_bytes.proofs.Listing.{added_asked, added_sound}
+use Rattle.list_bytes.proofs.Listing.{still_within, still_small, still_whole, listed_more}
 use Rattle.list_bytes.proofs.ListBytesRecorder.record.Goals as goal
 
-pub invariant_of-self : goal.invariant_of-self
-invariant_of-self c = let s = c.args.self.now in added_sound (fixed_command c.args.fixed) _ _ _ _ _ s.within s.small s.whole c.append_fixed.ensures
+pub invariant_of-self-2 : goal.invariant_of-self-2
+invariant_of-self-2 g c =
+    let s = c.args.self.now in
+    let wrote = c.in_ok-self.ensures in
+    record {
+      within = still_within _ _ _ _ _ s.whole wrote;
+      small = still_small _ _ _ _ _ s.whole wrote s.small;
+      whole = still_whole _ _ _ _ _ s.whole wrote;
+    }
 
 pub returns : goal.returns
-returns c = let s = c.args.self.now in added_asked (fixed_command c.args.fixed) _ _ _ _ _ s.within s.small s.whole c.append_fixed.ensures
+returns g c = listed_more _ _ _ _ _ c.args.self.now.whole c.in_ok-self.ensures
