@@ -2,9 +2,8 @@
 use Rattle.std.proofs.Common.{◌≡◌, ℕ, ◌+◌, ◌-◌, ◌^◌, ◌<◌, ◌≤◌, true, eqb, Some, None, Option, sym, refl, ap, ◌∙◌, subst, arith}
 use Rattle.std.proofs.lemmas.Bool.{eqb-true, cond_both}
 use Rattle.command_list.specs.declared.command.Half.TheVariants.{Graphics, Compute}
-use Rattle.command_list.specs.declared.code.Code.{Code}
 use Rattle.command_list.specs.Commands.{Command, code_of, byte_of, size, readable}
-use Rattle.device.specs.Devices.{Device, more, effect, counted, step, start}
+use Rattle.device.specs.Devices.{Device, more, step, start}
 use Rattle.device.specs.Meaning.{Taken}
 use Rattle.device.proofs.Steps.{ticked, vertex_slot, root_slot, step_counts, step_vertex_writes, step_root_writes}
 use Rattle.board.specs.declared.state.State.{State}
@@ -61,7 +60,3 @@ board_taken c s t k rest most z p = record {
   fits = omega (arith, z.size, z.fits);
   recorded = record { device = p; least = omega (arith, z.size, z.fits); most = omega arith; made = refl; shown = refl };
 }
-
--- an effect that is counted is a step
-pub stepped : (c : Command) (d e f : Device) (k : Code) → e ≡ effect c d → k ≡ code_of c → f ≡ counted (byte_of k) e → f ≡ step c d
-stepped c d e f k a b q = q ∙ ap (counted (byte_of k)) a ∙ ap (λ n. counted (byte_of n) (effect c d)) b

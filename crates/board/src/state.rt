@@ -75,6 +75,7 @@ impl<T: Copy> Slot<T> {
 }
 
 impl RootHalf {
+    // A half into which nothing was recorded.
     fn new() -> RootHalf
         ensures { roots_of result ≡ record { signature = 0; slots = λ i. unset; writes = λ i. 0 } }
     {
@@ -96,8 +97,8 @@ impl RootHalf {
         }
     }
 
-    // Replaces a slot.
-    pub(crate) fn put(&mut self, i: usize, slot: RootSlot)
+    // Replaces a slot and counts the write.
+    pub(crate) fn put_slot(&mut self, i: usize, slot: RootSlot)
         requires within { i < 64 }
         requires room { (roots_of self.old).writes i + 1 < 2 ^ 64 }
         ensures { roots_of self.new ≡ written i (slot_of slot) (roots_of self.old) }
@@ -105,7 +106,7 @@ impl RootHalf {
         self.slots[i].put(slot);
     }
 
-    // Sets one word of a slot.
+    // Sets one word of a slot and counts the write.
     pub(crate) fn put_word(&mut self, i: usize, w: usize, value: u32)
         requires slot { i < 64 }
         requires word { w < 64 }
@@ -114,7 +115,7 @@ impl RootHalf {
     {
         let mut words = self.slots[i].held.words();
         words[w] = Some(value);
-        self.put(i, RootSlot::Words(words));
+        self.put_slot(i, RootSlot::Words(words));
     }
 
     // Unsets a special slot, which is no write.
@@ -143,6 +144,7 @@ impl State {
         }
     }
 
+    // A half, to be read.
     pub(crate) fn half(&self, half: Half) -> &RootHalf
         ensures { result.now ≡ half_of self.now half }
     {
@@ -152,6 +154,7 @@ impl State {
         }
     }
 
+    // A half, to be changed.
     pub(crate) fn half_mut(&mut self, half: Half) -> &mut RootHalf
         ensures* writes_back { sem 𝓛 (LendsHalf self.entry half result) }
         ensures value { result.now ≡ half_of self.old half }

@@ -56,14 +56,14 @@ impl State {
                 address,
             } => self
                 .half_mut(half)
-                .put(slot as usize, RootSlot::Table(address)),
+                .put_slot(slot as usize, RootSlot::Table(address)),
             Fixed::SetRootConstantBufferView {
                 half,
                 slot,
                 address,
             } => self
                 .half_mut(half)
-                .put(slot as usize, RootSlot::Buffer(address)),
+                .put_slot(slot as usize, RootSlot::Buffer(address)),
             Fixed::DrawInstanced { .. } | Fixed::Dispatch { .. } => self.latest = Some(fixed),
             Fixed::ExecuteIndirect { half, special, .. } => {
                 self.latest = Some(fixed);

@@ -6,7 +6,7 @@ use Rattle.board.proofs.state.RootHalf.put_word.Goals as goal
 
 pub returns : goal.returns
 returns c =
-    let ws = c.words-words in
-    c.put.ensures
+    let before = c.words-words in
+    c.put_slot.ensures
     ∙ ap (λ f. written c.args.i (words f) (roots_of c.args.self.now))
-    (read_set (λ x. x) ws.result c.args.w (Some c.args.value) None (omega (arith, ws.ensures.long, c.requires.word)) ∙ ap (λ f. update f c.args.w (Some c.args.value)) ws.ensures.same)
+    (read_set (λ x. x) before.result c.args.w (Some c.args.value) None (omega (arith, before.ensures.long)) ∙ ap (λ f. update f c.args.w (Some c.args.value)) before.ensures.same)
