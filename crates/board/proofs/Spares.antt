@@ -18,7 +18,7 @@ spare_ticked None f k j most s l q = omega (arith, s q)
 spare_ticked (Some i) f k j most s l q = grind (arith, nat_tests, s q)
 
 -- so does one step
-pub spares_step : (c : Command) (d : Device) (k j most : ℕ) → Spares d k most → j < k → Spares (step c d) j most
+spares_step : (c : Command) (d : Device) (k j most : ℕ) → Spares d k most → j < k → Spares (step c d) j most
 spares_step c d k j most s l =
     let P : (ℕ → ℕ) → Type 0 = λ f. Spare f j most in (
       subst P (sym (step_counts c d)) (spare_ticked (Some (byte_of (code_of c))) d.counts k j most s.0 l),
