@@ -1,36 +1,27 @@
 -- No count passes the space that a board was made with.
-use Rattle.std.proofs.Common.{◌≡◌, ℕ, ◌+◌, ◌-◌, ◌^◌, ◌<◌, ◌≤◌, true, eqb, Some, None, Option, sym, refl, ap, ◌∙◌, subst, arith}
-use Rattle.std.proofs.lemmas.Bool.{eqb-true, cond_both}
+use Rattle.std.proofs.Common.{◌≡◌, ℕ, ◌-◌, ◌^◌, ◌<◌, ◌≤◌, true, Some, None, Option, sym, refl, ◌∙◌, subst, arith}
+use Rattle.std.proofs.lemmas.Bool.Decides.{nat_tests}
 use Rattle.command_list.specs.declared.command.Half.TheVariants.{Graphics, Compute}
-use Rattle.command_list.specs.declared.code.Code.{Code}
 use Rattle.command_list.specs.Commands.{Command, code_of, byte_of, size, readable}
-use Rattle.device.specs.Devices.{Device, more, effect, counted, step, start}
+use Rattle.device.specs.Devices.{Device, step, start}
 use Rattle.device.specs.Meaning.{Taken}
 use Rattle.device.proofs.Steps.{ticked, vertex_slot, root_slot, step_counts, step_vertex_writes, step_root_writes}
 use Rattle.board.specs.declared.state.State.{State}
 use Rattle.board.specs.Boards.{device_of, boarded, Spare, Spares}
 
-more_le : (f : ℕ → ℕ) (i q : ℕ) → more i f q ≤ f q + 1
-more_le f i q = cond_both (eqb q i) (f i + 1) (f q) (λ n. n ≤ f q + 1) (λ e. omega (arith, ap f (eqb-true q i e))) (λ e. omega arith)
+pub spares_start : (d : Device) (k : ℕ) → d ≡ start → Spares d k k
+spares_start d k e = subst (λ t. Spares t k k) (sym e) (λ q. omega arith, λ q. omega arith, λ q. omega arith, λ q. omega arith)
 
-spare_more : (f : ℕ → ℕ) (i k j most : ℕ) → Spare f k most → j < k → Spare (more i f) j most
-spare_more f i k j most s h q = omega (arith, s q, more_le f i q)
-
-spare_less : (f : ℕ → ℕ) (k j most : ℕ) → Spare f k most → j < k → Spare f j most
-spare_less f k j most s h q = omega (arith, s q)
-
-pub spares_start : (k : ℕ) → Spares start k k
-spares_start k = (λ q. omega arith, λ q. omega arith, λ q. omega arith, λ q. omega arith)
-
+-- one write uses up one at most
 spare_ticked : (o : Option ℕ) (f : ℕ → ℕ) (k j most : ℕ) → Spare f k most → j < k → Spare (ticked o f) j most
-spare_ticked None f k j most s l = spare_less f k j most s l
-spare_ticked (Some i) f k j most s l = spare_more f i k j most s l
+spare_ticked None f k j most s l q = omega (arith, s q)
+spare_ticked (Some i) f k j most s l q = grind (arith, nat_tests, s q)
 
--- one step uses up one at most
-pub spares_step : (c : Command) (d : Device) (k j most : ℕ) → Spares d k most → j < k → Spares (step c d) j most
+-- so does one step
+spares_step : (c : Command) (d : Device) (k j most : ℕ) → Spares d k most → j < k → Spares (step c d) j most
 spares_step c d k j most s l =
     let P : (ℕ → ℕ) → Type 0 = λ f. Spare f j most in (
-      subst P (sym (step_counts c d)) (spare_more d.counts (byte_of (code_of c)) k j most s.0 l),
+      subst P (sym (step_counts c d)) (spare_ticked (Some (byte_of (code_of c))) d.counts k j most s.0 l),
       subst P (sym (step_vertex_writes c d)) (spare_ticked (vertex_slot c) d.vertex_writes k j most s.1 l),
       subst P (sym (step_root_writes Graphics c d)) (spare_ticked (root_slot Graphics c) (d.halves Graphics).writes k j most s.2 l),
       subst P (sym (step_root_writes Compute c d)) (spare_ticked (root_slot Compute c) (d.halves Compute).writes k j most s.3 l),
@@ -61,7 +52,3 @@ board_taken c s t k rest most z p = record {
   fits = omega (arith, z.size, z.fits);
   recorded = record { device = p; least = omega (arith, z.size, z.fits); most = omega arith; made = refl; shown = refl };
 }
-
--- an effect that is counted is a step
-pub stepped : (c : Command) (d e f : Device) (k : Code) → e ≡ effect c d → k ≡ code_of c → f ≡ counted (byte_of k) e → f ≡ step c d
-stepped c d e f k a b q = q ∙ ap (counted (byte_of k)) a ∙ ap (λ n. counted (byte_of n) (effect c d)) b

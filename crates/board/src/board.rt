@@ -4,9 +4,7 @@ ghost use Rattle.command_list.specs.Commands.{byte_of};
 ghost use Rattle.device.specs.Devices.{start, unset};
 ghost use Rattle.board.specs.Boards.{boarded, device_of, halves_of, slot_of, view_of, no_view, latest_of, Spares};
 
-use crate::changes::fresh;
 use crate::state::{RootSlot, State, View};
-use crate::steps::{count_code, step, step_record};
 use command_list::code::Code;
 use command_list::command::{Barrier, Command, Fixed, Half};
 use command_list::fault::Fault;
@@ -29,7 +27,7 @@ impl Board {
         ensures { (device_of result.state ≡ start) × (result.rest ≡ most) × (result.most ≡ most) }
     {
         Board {
-            state: fresh(),
+            state: State::new(),
             rest: most,
             most,
         }
@@ -39,10 +37,7 @@ impl Board {
     pub fn signature(&self, half: Half) -> u32
         ensures { result ≡ ((device_of self.now.state).halves half).signature }
     {
-        match half {
-            Half::Graphics => self.state.graphics.signature,
-            Half::Compute => self.state.compute.signature,
-        }
+        self.state.half(half).signature
     }
 
     pub fn pipeline(&self) -> u32
@@ -62,50 +57,36 @@ impl Board {
     pub fn slot(&self, half: Half, i: u8) -> RootSlot
         ensures { slot_of result ≡ (if nat_lt i 64 then ((device_of self.now.state).halves half).slots i else unset) }
     {
-        if i >= 64 {
-            return RootSlot::Unset;
-        }
-        match half {
-            Half::Graphics => self.state.graphics.slots[i as usize],
-            Half::Compute => self.state.compute.slots[i as usize],
-        }
+        let slots = &self.state.half(half).slots;
+        slots
+            .get(i as usize)
+            .map_or(RootSlot::Unset, |slot| slot.held)
     }
 
     // How often a root slot was written.
     pub fn slot_writes(&self, half: Half, i: u8) -> u64
         ensures { result ≡ (if nat_lt i 64 then ((device_of self.now.state).halves half).writes i else 0) }
     {
-        if i >= 64 {
-            return 0;
-        }
-        match half {
-            Half::Graphics => self.state.graphics.writes[i as usize],
-            Half::Compute => self.state.compute.writes[i as usize],
-        }
+        let slots = &self.state.half(half).slots;
+        slots.get(i as usize).map_or(0, |slot| slot.writes)
     }
 
     // A vertex view.
     pub fn vertex(&self, i: u8) -> View
         ensures { view_of result ≡ (if nat_lt i 16 then (device_of self.now.state).vertices i else view_of no_view) }
     {
-        if i >= 16 {
-            return View {
-                address: 0,
-                size: 0,
-                stride: 0,
-            };
-        }
-        self.state.vertices[i as usize]
+        let vertices = &self.state.vertices;
+        vertices
+            .get(i as usize)
+            .map_or(View::default(), |slot| slot.held)
     }
 
     // How often a vertex slot was written.
     pub fn vertex_writes(&self, i: u8) -> u64
         ensures { result ≡ (if nat_lt i 16 then (device_of self.now.state).vertex_writes i else 0) }
     {
-        if i >= 16 {
-            return 0;
-        }
-        self.state.vertex_writes[i as usize]
+        let vertices = &self.state.vertices;
+        vertices.get(i as usize).map_or(0, |slot| slot.writes)
     }
 
     // How many commands of a code there were.
@@ -125,41 +106,41 @@ impl Recorder for Board {
     }
 
     fn start_anew(&mut self) {
-        self.state = fresh();
+        self.state = State::new();
         self.rest = self.most;
     }
 
     fn record(&mut self, fixed: Fixed) -> Result<(), Fault> {
         let bytes = fitting(size_fixed(fixed)?, self.rest)?;
-        step(&mut self.state, fixed);
+        self.state.step(fixed);
         self.rest -= bytes;
         Ok(())
     }
 
     fn replay(&mut self, record: Record) -> Result<(), Fault> {
         let bytes = fitting(size_record(record)?, self.rest)?;
-        step_record(&mut self.state, record);
+        self.state.step_record(record);
         self.rest -= bytes;
         Ok(())
     }
 
     fn begin_event(&mut self, label: &[u16]) -> Result<(), Fault> {
         let bytes = fitting(size(Command::BeginEvent(label))?, self.rest)?;
-        count_code(&mut self.state, Code::BeginEvent);
+        self.state.count_code(Code::BeginEvent);
         self.rest -= bytes;
         Ok(())
     }
 
     fn om_set_render_targets(&mut self, targets: &[u64]) -> Result<(), Fault> {
         let bytes = fitting(size(Command::OMSetRenderTargets(targets))?, self.rest)?;
-        count_code(&mut self.state, Code::OMSetRenderTargets);
+        self.state.count_code(Code::OMSetRenderTargets);
         self.rest -= bytes;
         Ok(())
     }
 
     fn resource_barrier(&mut self, barriers: &[Barrier]) -> Result<(), Fault> {
         let bytes = fitting(size(Command::ResourceBarrier(barriers))?, self.rest)?;
-        count_code(&mut self.state, Code::ResourceBarrier);
+        self.state.count_code(Code::ResourceBarrier);
         self.rest -= bytes;
         Ok(())
     }

@@ -2,6 +2,5 @@
 #![tactic(auto)]
 
 pub mod board;
-mod changes;
 pub mod state;
 mod steps;

@@ -1,7 +1,5 @@
-use Rattle.std.proofs.Common.{sym, subst}
-use Rattle.board.specs.Boards.{Spares}
 use Rattle.board.proofs.Spares.{spares_start}
 use Rattle.board.proofs.board.BoardRecorder.start_anew.Goals as goal
 
-pub invariant_of-self : goal.invariant_of-self
-invariant_of-self c = let s = c.args.self.now in record { small = s.small; spare = subst (λ d. Spares d s.most s.most) (sym c.fresh-self.ensures) (spares_start s.most) }
+pub invariant_of-self-clause-spare : goal.invariant_of-self-clause-spare
+invariant_of-self-clause-spare c = spares_start _ c.args.self.now.most c.new-self.ensures
