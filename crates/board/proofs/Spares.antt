@@ -1,9 +1,11 @@
 -- No count passes the space that a board was made with.
-use Rattle.std.proofs.Common.{◌≡◌, ℕ, ◌-◌, ◌^◌, ◌<◌, ◌≤◌, true, Some, None, Option, sym, refl, ◌∙◌, subst, arith}
+use Rattle.std.proofs.Common.{IsTrue, ◌≡◌, ℕ, ◌-◌, ◌^◌, ◌<◌, ◌≤◌, true, Some, None, Option, sym, refl, ◌∙◌, subst, arith}
 use Rattle.std.proofs.lemmas.Bool.Decides.{nat_tests}
+use Rattle.std.proofs.lemmas.Bool.{false≢true}
 use Rattle.command_list.specs.declared.command.Half.TheVariants.{Graphics, Compute}
-use Rattle.command_list.specs.Commands.{Command, code_of, byte_of, size, readable}
-use Rattle.device.specs.Devices.{Device, step, start}
+use Rattle.command_list.specs.Commands.{Command, BeginEvent, OMSetRenderTargets, ResourceBarrier, code_of, byte_of, size, readable}
+use Rattle.list_writer.specs.Writing.{has_list}
+use Rattle.device.specs.Devices.{Device, effect, step, start}
 use Rattle.device.specs.Meaning.{Taken}
 use Rattle.device.proofs.Steps.{ticked, vertex_slot, root_slot, step_counts, step_vertex_writes, step_root_writes}
 use Rattle.board.specs.declared.state.State.{State}
@@ -52,3 +54,10 @@ board_taken c s t k rest most z p = record {
   fits = omega (arith, z.size, z.fits);
   recorded = record { device = p; least = omega (arith, z.size, z.fits); most = omega arith; made = refl; shown = refl };
 }
+
+-- a command with a list changes nothing but its code's count
+pub list_effect : (c : Command) (d : Device) → IsTrue (has_list c) → effect c d ≡ d
+list_effect (BeginEvent us) d h = refl
+list_effect (OMSetRenderTargets hs) d h = refl
+list_effect (ResourceBarrier es) d h = refl
+list_effect c d h = absurd (false≢true h)

@@ -6,11 +6,10 @@ ghost use Rattle.board.specs.Boards.{boarded, device_of, halves_of, slot_of, vie
 
 use crate::state::{RootSlot, State, View};
 use command_list::code::Code;
-use command_list::command::{Barrier, Command, Fixed, Half};
+use command_list::command::{Fixed, Half};
 use command_list::fault::Fault;
-use command_list::record::Record;
 use device::recorder::{Recorder, fitting};
-use list_writer::writer::{size, size_fixed, size_record};
+use list_writer::writer::Recordable;
 
 #[derive(Drop)]
 pub struct Board {
@@ -93,7 +92,7 @@ impl Board {
     pub fn count(&self, code: Code) -> u64
         ensures { result ≡ (device_of self.now.state).counts (byte_of code) }
     {
-        self.state.counts[code.byte() as usize]
+        self.state.counts[u8::from(code) as usize]
     }
 }
 
@@ -110,37 +109,9 @@ impl Recorder for Board {
         self.rest = self.most;
     }
 
-    fn record(&mut self, fixed: Fixed) -> Result<(), Fault> {
-        let bytes = fitting(size_fixed(fixed)?, self.rest)?;
-        self.state.step(fixed);
-        self.rest -= bytes;
-        Ok(())
-    }
-
-    fn replay(&mut self, record: Record) -> Result<(), Fault> {
-        let bytes = fitting(size_record(record)?, self.rest)?;
-        self.state.step_record(record);
-        self.rest -= bytes;
-        Ok(())
-    }
-
-    fn begin_event(&mut self, label: &[u16]) -> Result<(), Fault> {
-        let bytes = fitting(size(Command::BeginEvent(label))?, self.rest)?;
-        self.state.count_code(Code::BeginEvent);
-        self.rest -= bytes;
-        Ok(())
-    }
-
-    fn om_set_render_targets(&mut self, targets: &[u64]) -> Result<(), Fault> {
-        let bytes = fitting(size(Command::OMSetRenderTargets(targets))?, self.rest)?;
-        self.state.count_code(Code::OMSetRenderTargets);
-        self.rest -= bytes;
-        Ok(())
-    }
-
-    fn resource_barrier(&mut self, barriers: &[Barrier]) -> Result<(), Fault> {
-        let bytes = fitting(size(Command::ResourceBarrier(barriers))?, self.rest)?;
-        self.state.count_code(Code::ResourceBarrier);
+    fn record<C: Recordable>(&mut self, command: C) -> Result<(), Fault> {
+        let bytes = fitting(command.size()?, self.rest)?;
+        self.state.step(command);
         self.rest -= bytes;
         Ok(())
     }

@@ -1,14 +1,14 @@
 // What a command does to the state.
 ghost use Rattle.std.specs.Prelude.{◌≡◌, ℕ, ◌+◌, ◌-◌, ◌^◌, ◌<◌, true};
-ghost use Rattle.command_list.specs.Commands.{in_range, byte_of, code_of};
-ghost use Rattle.command_list.specs.Seen.{command_of, fixed_command};
+ghost use Rattle.command_list.specs.Commands.{in_range, byte_of};
+ghost use Rattle.command_list.specs.Seen.{fixed_command};
 ghost use Rattle.device.specs.Devices.{effect as effect_of, step as step_of, counted, attached};
 ghost use Rattle.board.specs.Boards.{device_of, view_of, Spare, Spares};
 
 use crate::state::{RootSlot, State, View};
 use command_list::code::Code;
 use command_list::command::Fixed;
-use command_list::record::Record;
+use list_writer::writer::Recordable;
 
 impl State {
     // A vertex view is replaced, which is a write.
@@ -20,7 +20,7 @@ impl State {
         self.vertices[i].put(view);
     }
 
-    // What a command changes besides its code's count.
+    // What a command of a fixed width changes besides its code's count.
     fn effect(&mut self, fixed: Fixed)
         requires ranged { in_range (fixed_command fixed) ≡ true }
         requires room { Spares (device_of self.old) 1 (2 ^ 64 - 1) }
@@ -79,34 +79,31 @@ impl State {
     }
 
     // One more of a code.
-    pub(crate) fn count_code(&mut self, code: Code)
+    fn count_code(&mut self, code: Code)
         requires { Spare (device_of self.old).counts 1 (2 ^ 64 - 1) }
         ensures { device_of self.new ≡ counted (byte_of code) (device_of self.old) }
     {
-        self.counts[code.byte() as usize] += 1;
+        self.counts[u8::from(code) as usize] += 1;
     }
 
-    // A command of a fixed width.
-    pub(crate) fn step(&mut self, fixed: Fixed)
-        requires ranged { in_range (fixed_command fixed) ≡ true }
+    // What any command changes besides that: one with a list, nothing.
+    fn change<C: Recordable>(&mut self, command: C)
+        requires ranged { in_range (C.says command) ≡ true }
         requires room { Spares (device_of self.old) 1 (2 ^ 64 - 1) }
-        ensures { device_of self.new ≡ step_of (fixed_command fixed) (device_of self.old) }
+        ensures { device_of self.new ≡ effect_of (C.says command) (device_of self.old) }
     {
-        self.effect(fixed);
-        self.count_code(fixed.code());
-    }
-
-    // A record that was read.
-    pub(crate) fn step_record(&mut self, record: Record)
-        requires ranged { in_range (command_of «record») ≡ true }
-        requires room { Spares (device_of self.old) 1 (2 ^ 64 - 1) }
-        ensures { device_of self.new ≡ step_of (command_of «record».entry) (device_of self.old) }
-    {
-        match record {
-            Record::BeginEvent(_) => self.count_code(Code::BeginEvent),
-            Record::OMSetRenderTargets(_) => self.count_code(Code::OMSetRenderTargets),
-            Record::ResourceBarrier(_) => self.count_code(Code::ResourceBarrier),
-            Record::Fixed(fixed) => self.step(fixed),
+        if let Some(fixed) = command.fixed() {
+            self.effect(fixed);
         }
+    }
+
+    // Any command.
+    pub(crate) fn step<C: Recordable>(&mut self, command: C)
+        requires ranged { in_range (C.says command) ≡ true }
+        requires room { Spares (device_of self.old) 1 (2 ^ 64 - 1) }
+        ensures { device_of self.new ≡ step_of (C.says command) (device_of self.old) }
+    {
+        self.change(command);
+        self.count_code(command.code());
     }
 }

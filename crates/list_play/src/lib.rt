@@ -24,7 +24,7 @@ fn play_all<R: Recorder>(recorder: &mut R, file: &[u8]) -> Result<(), Fault>
 {
     let mut reader = Reader::open(file)?;
     while let Some(record) = reader.next()? {
-        recorder.replay(record)?;
+        recorder.record(record)?;
     }
     Ok(())
 }

@@ -25,12 +25,12 @@ loop-record-smaller g c =
 pub loop-record-preserved : goal.loop-record-preserved
 loop-record-preserved g c = (
   c.in_ok-record.ensures.same ∙ c.loop-record.invariant.0,
-  pass_more _ _ _ _ c.loop-record.invariant.1 _ _ (λ i. omega (arith, c.type_inv.file i)) (some_step _ _ _ _ _ _ c.in_ok-record.ensures.gives c.in-Some.is c.loop-record.invariant.0) _ c.in_ok-replay.ensures,
+  pass_more _ _ _ _ c.loop-record.invariant.1 _ _ (λ i. omega (arith, c.type_inv.file i)) (some_step _ _ _ _ _ _ c.in_ok-record.ensures.gives c.in-Some.is c.loop-record.invariant.0) _ c.in_ok-record-2.ensures,
 )
 
-pub returns-in_err-replay : goal.returns-in_err-replay
-returns-in_err-replay g c =
-    absurd (pass_not_refused _ _ _ _ c.loop-record.invariant.1 _ _ (λ i. omega (arith, c.type_inv.file i)) (some_step _ _ _ _ _ _ c.in_ok-record.ensures.gives c.in-Some.is c.loop-record.invariant.0) _ _ c.requires.fits c.in_err-replay.ensures)
+pub returns-in_err-record-2 : goal.returns-in_err-record-2
+returns-in_err-record-2 g c =
+    absurd (pass_not_refused _ _ _ _ c.loop-record.invariant.1 _ _ (λ i. omega (arith, c.type_inv.file i)) (some_step _ _ _ _ _ _ c.in_ok-record.ensures.gives c.in-Some.is c.loop-record.invariant.0) _ _ c.requires.fits c.in_err-record-2.ensures)
 
 pub returns : goal.returns
 returns g c =

@@ -1,23 +1,22 @@
 use Rattle.std.proofs.lemmas.Bool.{and_parts}
-use Rattle.command_list.specs.Seen.{fixed_command}
 use Rattle.board.specs.Boards.{device_of}
 use Rattle.board.proofs.Spares.{sized, room_for_one, spares_made, board_taken}
 use Rattle.board.proofs.board.BoardRecorder.record.Goals as goal
 
 pub step-requires : goal.step-requires
-step-requires c =
+step-requires g c =
     let s = c.args.self.now in
-    let z = sized (fixed_command c.args.fixed) _ _ _ c.in_ok-size_fixed.ensures c.in_ok-bytes.ensures in
+    let z = sized (g.C.Recordable.says c.args.command) _ _ _ c.in_ok-size.ensures c.in_ok-bytes.ensures in
     record { ranged = (and_parts _ _ z.readable).0; room = room_for_one _ (device_of s.state) _ _ _ z s.spare s.small }
 
 pub invariant_of-self : goal.invariant_of-self
-invariant_of-self c =
+invariant_of-self g c =
     let s = c.args.self.now in
-    let z = sized (fixed_command c.args.fixed) _ _ _ c.in_ok-size_fixed.ensures c.in_ok-bytes.ensures in
+    let z = sized (g.C.Recordable.says c.args.command) _ _ _ c.in_ok-size.ensures c.in_ok-bytes.ensures in
     record { small = s.small; spare = spares_made _ (device_of s.state) _ _ _ _ z c.step.ensures s.spare }
 
 pub returns : goal.returns
-returns c =
+returns g c =
     let s = c.args.self.now in
-    let z = sized (fixed_command c.args.fixed) _ _ _ c.in_ok-size_fixed.ensures c.in_ok-bytes.ensures in
+    let z = sized (g.C.Recordable.says c.args.command) _ _ _ c.in_ok-size.ensures c.in_ok-bytes.ensures in
     board_taken _ s.state _ _ _ _ z c.step.ensures

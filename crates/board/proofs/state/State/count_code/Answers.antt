@@ -10,4 +10,4 @@ counted_device : (s : State) (i k : ℕ) → i < length s.counts → i ≡ k →
 counted_device s i k h e = grind (arith, common_steps)
 
 pub returns : goal.returns
-returns c = counted_device c.args.self.now c.byte.result _ (grind arith) c.byte.ensures
+returns c = counted_device c.args.self.now c.from.result _ (grind arith) c.from.ensures
