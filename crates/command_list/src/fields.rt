@@ -99,7 +99,7 @@ fn read_end_event(rest: &[u8]) -> Result<Record, Number>
     Ok(Record::Fixed(Fixed::EndEvent))
 }
 
-// A flag is 0 or 1.
+// A flag is 0 or 1. `bool` is not a type of this crate, so this is no `TryFrom`.
 fn flag(byte: u8) -> Result<bool, Number>
     ensures { MatchResult result (λ on. flag_of byte ≡ Some on) (λ e. (e ≡ Number.Operand) × (flag_of byte ≡ None)) }
 {
@@ -118,7 +118,8 @@ fn read_descriptor_heaps(rest: &[u8]) -> Result<Record, Number>
     Ok(Record::Fixed(Fixed::SetDescriptorHeaps(on)))
 }
 
-// One number of four bytes.
+// One number of four bytes. The readers below are one for each code, as their contracts are: where two read
+// alike, they share this or `slot_address` and differ in the case that they make.
 fn word(rest: &[u8]) -> Result<u32, Number>
     ensures { MatchResult result (λ n. (length rest.now ≡ 4) × (n ≡ number_at 4 0 rest.now)) (λ e. (e ≡ Number.Length) × (length rest.now ≢ 4)) }
 {
@@ -271,7 +272,7 @@ fn read_dispatch(rest: &[u8]) -> Result<Record, Number>
     }))
 }
 
-// An indirect call is a draw (0) or a dispatch (2).
+// An indirect call is a draw (0) or a dispatch (2): the file's number of a kind, no other name of a half.
 fn indirect_half(byte: u8) -> Result<Half, Number>
     ensures { MatchResult result (λ h. kind_of byte ≡ Some h) (λ e. (e ≡ Number.Operand) × (kind_of byte ≡ None)) }
 {
@@ -282,7 +283,7 @@ fn indirect_half(byte: u8) -> Result<Half, Number>
     }
 }
 
-// A special slot is below 64, or 255 for the shared signature.
+// A special slot is below 64, or 255 for the shared signature. `Option<u8>` is not a type of this crate.
 fn special_slot(byte: u8) -> Result<Option<u8>, Number>
     ensures { MatchResult result (λ s. (special_of byte ≡ s) × (is_special s ≡ true)) (λ e. (e ≡ Number.Operand) × (is_special (special_of byte) ≡ false)) }
 {

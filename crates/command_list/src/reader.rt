@@ -1,5 +1,5 @@
 // Goes through a list file record by record.
-ghost use Rattle.std.specs.Prelude.{◌≡◌, ℕ, ◌+◌, ◌^◌, ◌<◌, true, false, length, MatchResult};
+ghost use Rattle.std.specs.Prelude.{◌≡◌, ℕ, ◌+◌, ◌≤◌, true, false, length, MatchResult};
 ghost use Rattle.command_list.specs.Decoding.{front as front_said};
 ghost use Rattle.command_list.specs.Files.{has_version};
 ghost use Rattle.command_list.specs.Seen.{IsFault, seen_front, seen_step, step_at};
@@ -36,6 +36,7 @@ fn front(left: &[u8]) -> Result<Option<(Record, usize)>, Number>
 pub struct Reader<'a> {
     file: &'a [u8],
     at: usize,
+    ghost within: { at ≤ length file.now },
 }
 
 impl<'a> Reader<'a> {
@@ -63,11 +64,7 @@ impl<'a> Reader<'a> {
         ensures gives { seen_step result self.new.at ≡ step_at self.old.file.now self.old.at }
     {
         let at = self.at;
-        let file = self.file;
-        if at >= file.len() {
-            return Ok(None);
-        }
-        match front(&file[at..]) {
+        match front(&self.file[at..]) {
             Ok(None) => Ok(None),
             Ok(Some((record, size))) => {
                 self.at = at + size;

@@ -16,8 +16,7 @@ pub fn fitting(size: usize, space: usize) -> Result<usize, Fault>
     if space < size { Err(FULL) } else { Ok(size) }
 }
 
-// The commands that each half has for itself. The list file has a code for each half, and the trait a
-// function for each code: these pairs are kept as they are, over one maker for both.
+// The commands that each half has for itself.
 fn root_signature(half: Half, signature: u32) -> Fixed
     ensures { fixed_command result ≡ SetRootSignature half signature }
 {
@@ -56,7 +55,9 @@ fn root_view(half: Half, slot: u8, address: u64) -> Fixed
 }
 
 // A recorder takes commands into its space. A command is refused exactly when it has no record that
-// the reader takes or when that record is longer than the space; it then alters nothing.
+// the reader takes or when that record is longer than the space; it then alters nothing. There is a
+// function for each code of the list file, as Direct3D has one for each call: all of them come to
+// `record`, and those that differ in a half alone share what makes their command.
 pub trait Recorder {
     ghost meaning: { Self → Meaning };
 

@@ -1,23 +1,23 @@
-use Rattle.std.proofs.Common.{length, drop, sym, ap, ap₂, ◌∙◌, arith, length-drop}
-use Rattle.std.proofs.lemmas.List.{drop_all, take_rest}
+use Rattle.std.proofs.Common.{drop, sym, ap, ap₂, ◌∙◌, arith, length-drop}
+use Rattle.std.proofs.lemmas.List.{take_rest}
 use Rattle.command_list.specs.Decoding.{front}
 use Rattle.command_list.specs.Seen.{number_of, stopped, step_of, step_at, seen_front, front_of}
-use Rattle.command_list.proofs.Fronts.{front_none, front_within}
+use Rattle.command_list.proofs.Fronts.{front_within}
 use Rattle.command_list.proofs.reader.Reader.next.Goals as goal
 
-pub returns-then-at-file-clause-gives : goal.returns-then-at-file-clause-gives
-unfolding step_at
-returns-then-at-file-clause-gives c =
+pub invariant_of-self : goal.invariant_of-self
+invariant_of-self c =
     let at = c.args.self.now.at in
     let bs = c.args.self.now.file.now in
-    ap (λ f. step_of f at) (sym (front_none (drop at bs) (ap length (drop_all at bs c.if-at-file.true))))
+    let w = front_within (drop at bs) _ _ (sym (c.front.ensures ∙ ap front (take_rest bs at)) ∙ ap seen_front c.in-Ok-Some.is ∙ ap front_of c.in-Ok-Some.field-0-is) in
+    record { within = omega (arith, w.0, w.1, length-drop at bs, c.args.self.now.within) }
 
 pub overflow_add-self : goal.overflow_add-self
 overflow_add-self c =
     let at = c.args.self.now.at in
     let bs = c.args.self.now.file.now in
     let w = front_within (drop at bs) _ _ (sym (c.front.ensures ∙ ap front (take_rest bs at)) ∙ ap seen_front c.in-Ok-Some.is ∙ ap front_of c.in-Ok-Some.field-0-is) in
-    omega (arith, w.1, length-drop at bs, c.if-at-file.false)
+    omega (arith, w.1, length-drop at bs)
 
 pub returns-in-Ok-None-clause-gives : goal.returns-in-Ok-None-clause-gives
 unfolding step_at
