@@ -4,3 +4,4 @@ pub mod Decoding
 pub mod Files
 pub mod Seen
 pub mod RowLaws
+pub mod Shown

@@ -109,6 +109,11 @@ pub enum Call<U, H, E> {
 pub type Command<'a> = Call<&'a [u16], &'a [u64], &'a [Barrier]>;
 
 impl fmt::Display for Half {
+    ghost use Rattle.std.specs.Prelude.{Some};
+    ghost use Rattle.command_list.specs.Shown.{half_name};
+
+    ghost output = { λ half. Some (half_name half) };
+
     fn fmt<W: fmt::Write>(&self, f: &mut fmt::Formatter<W>) -> fmt::Result {
         f.write_str(match self {
             Half::Graphics => "graphics",

@@ -67,6 +67,11 @@ impl From<Number> for u8 {
 
 // What a number says.
 impl fmt::Display for Number {
+    ghost use Rattle.std.specs.Prelude.{Some};
+    ghost use Rattle.command_list.specs.Shown.{reason};
+
+    ghost output = { λ number. Some (reason number) };
+
     fn fmt<W: fmt::Write>(&self, f: &mut fmt::Formatter<W>) -> fmt::Result {
         f.write_str(match self {
             Number::Range => "something is out of its range",
@@ -99,6 +104,11 @@ pub struct Fault {
 
 // A refusal in a line.
 impl fmt::Display for Fault {
+    ghost use Rattle.std.specs.Prelude.{Some};
+    ghost use Rattle.command_list.specs.Shown.{line};
+
+    ghost output = { λ fault. Some (line fault) };
+
     fn fmt<W: fmt::Write>(&self, f: &mut fmt::Formatter<W>) -> fmt::Result {
         let Fault { number, place } = self;
         let value = u8::from(*number);
