@@ -1,5 +1,5 @@
 use Rattle.std.proofs.Common.{arith}
-use Rattle.list_writer.proofs.Rows.{entry_again, entry_room, entry_all, room_entry}
+use Rattle.list_writer.proofs.Rows.{entry_again, entry_room, room_entry}
 use Rattle.list_writer.proofs.operands.RefSliceOperands.lay.Goals as goal
 
 pub lay-at-requires : goal.lay-at-requires
@@ -23,6 +23,3 @@ loop-x-preserved g c =
     let w = g.T.Row.WIDTH in
     let even = g.met.T.Entry.even in
     entry_again e w even _ _ _ _ _ _ _ _ c.loop-x-test.true c.x-item.is c.requires c.loop-x.invariant.0 c.lay-at.ensures
-
-pub returns : goal.returns
-returns g c = entry_all g.T.Operands.laid _ _ _ _ _ c.loop-x-test.false c.loop-x.invariant.0

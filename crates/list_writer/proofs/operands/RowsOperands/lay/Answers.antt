@@ -3,12 +3,6 @@ use Rattle.list_writer.proofs.Rows.{total_entries}
 use Rattle.list_writer.proofs.Parts.{rows_within, rows_laid}
 use Rattle.list_writer.proofs.operands.RowsOperands.lay.Goals as goal
 
-pub overflow_mul-n : goal.overflow_mul-n
-overflow_mul-n g c =
-    let rows = g.T.Row.rows c.args.self.bytes.now in
-    let n = ap₂ (λ w k. w * k) c.WIDTH.ensures c.count.ensures in
-    omega (arith, n, rows_within g.T.Row.WIDTH rows _ (g.met.T.Row.counted c.args.self.bytes.now))
-
 pub lay_front-requires : goal.lay_front-requires
 lay_front-requires g c =
     let rows = g.T.Row.rows c.args.self.bytes.now in
