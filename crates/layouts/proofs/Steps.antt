@@ -1,10 +1,10 @@
 -- The loops over groups, entries and slots: one step, and the end.
-use Rattle.std.proofs.Common.{◌≡◌, ℕ, zero, suc, ◌+◌, ◌*◌, ◌<◌, ◌≤◌, Bool, true, false, cond, ◌&&◌, eqb, ltb, List, [], ◌∷◌, map, length, get_or, drop, set, replicate, Some, None, Decides, Option, sym, refl, ap, ◌∙◌, ⊎_elim, add-one, arith, length-append}
+use Rattle.std.proofs.Common.{◌≡◌, ℕ, zero, suc, ◌*◌, ◌<◌, ◌≤◌, Bool, true, false, cond, ◌&&◌, eqb, List, [], ◌∷◌, map, length, get_or, drop, set, replicate, Some, None, Decides, Option, sym, refl, ap, ◌∙◌, ⊎_elim, add-one, arith, length-append}
 use Rattle.std.specs.List.{list_all, range_with_len}
 use Rattle.std.proofs.lemmas.List.Folds.{list_all-append, list_all-map}
 use Rattle.std.proofs.lemmas.List.FromFn.{fill_by_all, map-range_with_len_more}
-use Rattle.std.proofs.lemmas.List.{at_drop_more, at_drop_all, length-set, get_or-set_same, get_or-set_other, get_or-replicate}
-use Rattle.std.proofs.lemmas.Bool.{le-ltb, lt-ltb, eq-eqb, ne_eqb, cases_eq}
+use Rattle.std.proofs.lemmas.List.{at_drop_all, length-set, get_or-set_same, get_or-set_other, get_or-replicate}
+use Rattle.std.proofs.lemmas.Bool.{eq-eqb, ne_eqb, cases_eq}
 use Rattle.std.proofs.lemmas.Bool.Decides.{Decides-below_and, Decides-eqb}
 use Rattle.layouts.specs.declared.info.BindGroupInfo.{BindGroupInfo}
 use Rattle.layouts.specs.declared.info.GroupEntry.{GroupEntry}
@@ -52,24 +52,6 @@ pub placing_placed : (es : List GroupEntry) → placing (replicate 8 None) es �
 placing_placed es =
     fill_by_all (latest es) (placing (replicate 8 None) es) 8 None (placing_length (replicate 8 None) es)
     (λ k h. placing_at (replicate 8 None) es k h ∙ ap (later (latest es k)) (get_or-replicate 8 k None None h) ∙ none_later (latest es k))
-
-module _ (gs : List (Option BindGroupInfo)) (es : List GroupEntry) (i : ℕ) (d : GroupEntry) (h : i < length es)
-    (inv : (indexed (drop i es) ≡ indexed es) × (placing gs (drop i es) ≡ placing (replicate 8 None) es) × (length gs ≡ 8)) where
-  indexed_step : indexed es ≡ (ltb (get_or es i d).index 8 && indexed (drop (i + 1) es))
-  indexed_step = sym inv.0 ∙ at_drop_more indexed es i d h
-
-  pub place_stops : 8 ≤ (get_or es i d).index → indexed es ≡ false
-  place_stops l = indexed_step ∙ ap (λ b. b && indexed (drop (i + 1) es)) (le-ltb (get_or es i d).index 8 l)
-
-  pub place_more : (get_or es i d).index < 8
-      → (indexed (drop (i + 1) es) ≡ indexed es)
-      × (placing (set gs (get_or es i d).index (Some (get_or es i d).info)) (drop (i + 1) es) ≡ placing (replicate 8 None) es)
-      × (length (set gs (get_or es i d).index (Some (get_or es i d).info)) ≡ 8)
-  place_more l = (
-    sym (indexed_step ∙ ap (λ b. b && indexed (drop (i + 1) es)) (lt-ltb (get_or es i d).index 8 l)),
-    sym (at_drop_more (placing gs) es i d h) ∙ inv.1,
-    length-set gs (get_or es i d).index (Some (get_or es i d).info) ∙ inv.2,
-  )
 
 pub place_all : (gs : List (Option BindGroupInfo)) (es : List GroupEntry) (i : ℕ) → length es ≤ i
     → (indexed (drop i es) ≡ indexed es) × (placing gs (drop i es) ≡ placing (replicate 8 None) es) × (length gs ≡ 8)

@@ -26,7 +26,8 @@ fn behind_last(info: BindGroupInfo) -> u64
     first_uniform(info) + u64::from(info.uniforms)
 }
 
-// The groups at their indices. Of two entries with one index the later stands.
+// The groups at their indices. Of two entries with one index the later stands. A test and an index, since with
+// `get_mut` the check did not know the array behind the write.
 pub(crate) fn place(
     groups: &[GroupEntry],
 ) -> Result<[Option<BindGroupInfo>; MAX_BIND_GROUPS], Fault>

@@ -1,19 +1,14 @@
 -- The barrier rule by cases, and the first item that fails a question.
-use Rattle.std.proofs.Common.{◌≡◌, ℕ, zero, suc, ◌+◌, ◌<◌, Bool, true, false, cond, not, List, [], ◌∷◌, length, get_or, Some, None, Ok, Err, Option, Result, sym, refl, ap, ◌∙◌, subst, ap₂, inl, inr, ⊎_elim, arith}
-use Rattle.std.proofs.lemmas.Bool.{ne_eqb, cond-true, cond-false, cases_Bool}
+use Rattle.std.proofs.Common.{◌≡◌, ℕ, zero, suc, ◌+◌, ◌<◌, Bool, true, false, cond, not, List, [], ◌∷◌, length, get_or, Some, None, Ok, Err, Option, Result, sym, refl, ap, ◌∙◌, subst, inl, inr, ⊎_elim, arith}
+use Rattle.std.proofs.lemmas.Bool.{cond-true, cond-false, cases_Bool}
 use Rattle.std.specs.List.{position, position_from}
 use Rattle.std.proofs.lemmas.Iterator.Adapters.{position_from-zero}
 use Rattle.command_list.specs.declared.fault.Fault.{Fault}
 use Rattle.command_list.specs.Seen.{number_of}
 use Rattle.resources.specs.declared.barrier.ResourceBarrier.{ResourceBarrier}
-use Rattle.resources.specs.Usages.{Usage, state_of}
-use Rattle.resources.specs.Barriers.{Change, transition, barrier_of, in_range, present, first_from, Why, refused_at, or_else, verdict, answered, All, First, Decided}
+use Rattle.resources.specs.Usages.{Usage}
+use Rattle.resources.specs.Barriers.{Change, in_range, present, first_from, Why, refused_at, or_else, verdict, answered, All, First, Decided}
 use Rattle.resources.specs.Listed.{change_of, changes_of}
-
-pub unlike : (c : Change) (b a : ℕ) → b ≡ state_of c.from → a ≡ state_of c.to → (b ≡ a → ⊥) → Some (transition c.resource b a) ≡ barrier_of c
-unlike c b a p q n =
-    let m : state_of c.from ≡ state_of c.to → ⊥ = λ e. n (p ∙ e ∙ sym q) in
-    rw (ne_eqb (state_of c.from) (state_of c.to) m) (ap₂ (λ (x y : ℕ). Some (transition c.resource x y)) p q)
 
 -- the first item that fails a question, in the library's words
 first_from_position : {U : Type 0} (usage : U → Usage) (good : Change → Bool) (i : ℕ) (bs : List (ResourceBarrier U)) → position_from (λ b. not (good (change_of usage b))) i bs ≡ first_from i good (changes_of usage bs)
