@@ -5,12 +5,6 @@ ghost use Rattle.bindings.specs.Bindings.{address_of, size_of, Reachable, Sized}
 
 use command_list::fault::{Fault, Number};
 
-// What is answered to an address, a size or an end that passes its width or its buffer.
-pub(crate) const PAST: Fault = Fault {
-    number: Number::Extent,
-    place: 0,
-};
-
 #[derive(Clone, Copy)]
 pub struct Buffer {
     pub address: u64,
@@ -37,28 +31,23 @@ impl BufferBinding {
     pub fn resolve_address(&self) -> Result<u64, Fault>
         ensures { MatchResult result (λ a. (a ≡ address_of self.now) × Reachable self.now) (λ f. IsFault f 5 0 × (Reachable self.now → ⊥)) }
     {
-        if self.offset > u64::MAX - self.buffer.address {
-            return Err(PAST);
-        }
-        Ok(self.buffer.address + self.offset)
+        self.buffer
+            .address
+            .checked_add(self.offset)
+            .ok_or(Number::Extent.at(0))
     }
 
     // The bytes that the binding has.
     pub fn resolve_size(&self) -> Result<u32, Fault>
         ensures { MatchResult result (λ n. (n ≡ size_of self.now) × Sized self.now) (λ f. IsFault f 5 0 × (Sized self.now → ⊥)) }
     {
-        if self.offset > self.buffer.size {
-            return Err(PAST);
-        }
-        let size = if self.size == 0 {
-            self.buffer.size - self.offset
-        } else {
-            self.size
-        };
-        if size > 0xFFFF_FFFF {
-            return Err(PAST);
-        }
-        Ok(size as u32)
+        let rest = self
+            .buffer
+            .size
+            .checked_sub(self.offset)
+            .ok_or(Number::Extent.at(0))?;
+        let size = if self.size == 0 { rest } else { self.size };
+        u32::try_from(size).map_err(|_| Number::Extent.at(0))
     }
 
     // Both at once.

@@ -10,16 +10,12 @@ pub struct SpecialConstants {
 }
 
 impl SpecialConstants {
-    // What a draw's shader is told.
+    // What a draw's shader is told: nothing in the third word.
     pub fn from_draw(first_vertex: u32, first_instance: u32) -> SpecialConstants
         ensures value { result ≡ constants first_vertex first_instance 0 }
         ensures words { words_of result ≡ first_vertex ∷ first_instance ∷ 0 ∷ [] }
     {
-        SpecialConstants {
-            first_vertex_or_x: first_vertex.cast_signed(),
-            first_instance_or_y: first_instance,
-            unused_or_z: 0,
-        }
+        SpecialConstants::from_dispatch(first_vertex, first_instance, 0)
     }
 
     // What a dispatch's shader is told.

@@ -30,11 +30,8 @@ impl Extent {
     pub fn new(width: u32, height: u32) -> Result<Extent, Fault>
         ensures { MatchResult result (λ e. (e.width ≡ width) × (e.height ≡ height) × InExtent width × InExtent height) (λ f. IsFault f 1 0 × (InExtent width → InExtent height → ⊥)) }
     {
-        if width == 0 || width > MOST || height == 0 || height > MOST {
-            return Err(Fault {
-                number: Number::Range,
-                place: 0,
-            });
+        if !(1..=MOST).contains(&width) || !(1..=MOST).contains(&height) {
+            return Err(Number::Range.at(0));
         }
         Ok(Extent { width, height })
     }

@@ -4,8 +4,7 @@ ghost use Rattle.bindings.specs.declared.rect.Bounds.{Bounds};
 ghost use Rattle.command_list.specs.Seen.{IsFault};
 ghost use Rattle.bindings.specs.Rects.{Ends};
 
-use crate::binding::PAST;
-use command_list::fault::Fault;
+use command_list::fault::{Fault, Number};
 
 #[derive(Clone, Copy)]
 pub struct Rect {
@@ -31,10 +30,10 @@ const END: u32 = 0x8000_0000;
 fn end(start: u32, width: u32) -> Result<u32, Fault>
     ensures { MatchResult result (λ n. (n ≡ start + width) × (n < 2 ^ 31)) (λ f. IsFault f 5 0 × (2 ^ 31 ≤ start + width)) }
 {
-    if start >= END || width >= END - start {
-        return Err(PAST);
-    }
-    Ok(start + width)
+    start
+        .checked_add(width)
+        .filter(|end| *end < END)
+        .ok_or(Number::Extent.at(0))
 }
 
 impl Rect {

@@ -10,17 +10,21 @@ use std::str::from_utf8;
 // The most bytes of a label.
 const MOST_BYTES: usize = 256;
 
-// The units of a label with their final 0: at most one for each byte, and the 0.
+// The most units of a label: at most one for each byte, and the final 0.
+const MOST_UNITS: usize = 257;
+
+// The units of a label with their final 0. An array with its length in use, since a label takes no heap.
 #[derive(Drop)]
 pub struct Label {
-    units: [u16; 257],
+    units: [u16; MOST_UNITS],
     len: usize,
     ghost within: { len ≤ 257 },
     ghost recordable: { Recordable (take len units) },
 }
 
 // Puts the units of a text at the front, and says how many they are.
-fn fill(text: &str, units: &mut [u16; 257]) -> usize
+// The count is kept by hand, since it is the answer: `enumerate` would give an index, and the count would stand beside it.
+fn fill(text: &str, units: &mut [u16; MOST_UNITS]) -> usize
     requires { length text.now ≤ 256 }
     ensures count { result ≤ length text.now }
     ensures front { take result units.new ≡ utf16s (chars text.now) }
@@ -40,18 +44,10 @@ impl Label {
         ensures { MatchResult result (λ l. Labelled bytes.now (take l.len l.units)) (λ f. Refused bytes.now f) }
     {
         if bytes.len() > MOST_BYTES {
-            return Err(Fault {
-                number: Number::Range,
-                place: 0,
-            });
+            return Err(Number::Range.at(0));
         }
-        let Ok(text) = from_utf8(bytes) else {
-            return Err(Fault {
-                number: Number::Text,
-                place: 0,
-            });
-        };
-        let mut units = [0; 257];
+        let text = from_utf8(bytes).map_err(|_| Number::Text.at(0))?;
+        let mut units = [0; MOST_UNITS];
         let n = fill(text, &mut units);
         units[n] = 0;
         Ok(Label { units, len: n + 1 })
@@ -61,6 +57,6 @@ impl Label {
     pub fn units(&self) -> &[u16]
         ensures { (result.now ≡ take self.now.len self.now.units) × Recordable result.now }
     {
-        &self.units[0..self.len]
+        &self.units[..self.len]
     }
 }

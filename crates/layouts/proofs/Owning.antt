@@ -45,10 +45,19 @@ uniforms_of k g = by (among g.base_root_index (first_uniform g) k) (among (first
     by false true = refl
     by false false = refl
 
--- the masks of groups, one after the other
+-- a span of slots is the mask of what is among them
+pub span_among : (a b k : ℕ) → (leb a k && (ltb k b && ltb k 64)) ≡ (ltb k 64 && among a b k)
+span_among a b k = by (leb a k) (ltb k b) (ltb k 64)
+  where
+    by : (x y z : Bool) → (x && (y && z)) ≡ (z && (x && y))
+    by true true true = refl
+    by true true false = refl
+    by true false true = refl
+    by true false false = refl
+    by false y true = refl
+    by false y false = refl
 
-pub no_mask : (kind : Owner → Bool) (o : Option BindGroupInfo) → o ≡ None → (k : ℕ) → bit 0 k ≡ (ltb k 64 && held kind (of_group k o))
-no_mask kind o e k = bit_none k ∙ sym (ap (λ x. ltb k 64 && held kind (of_group k x)) e ∙ and_right (ltb k 64) false refl)
+-- the masks of groups, one after the other
 
 -- what is in the mask or is still to come gives the slots of all groups
 abbrev pub Gathers : (Owner → Bool) → List (Option BindGroupInfo) → ℕ → ℕ → Type 0
@@ -74,6 +83,10 @@ gathers_more kind gs i mask m h inv f k =
     by false true true y = refl
     by false true false y = refl
     by false false x y = refl
+
+pub gathers_past : (kind : Owner → Bool) (gs : List (Option BindGroupInfo)) (i mask : ℕ) → i < length gs → get_or gs i None ≡ None → Gathers kind gs i mask → Gathers kind gs (i + 1) mask
+gathers_past kind gs i mask h e inv k =
+    sym (ap (λ xs. bit mask k || (ltb k 64 && held kind xs)) (at_drop_more (of_groups k) gs i None h ∙ ap (λ o. of_group k o ++ of_groups k (drop (i + 1) gs)) e)) ∙ inv k
 
 pub gathers_all : (kind : Owner → Bool) (gs : List (Option BindGroupInfo)) (i mask : ℕ) → length gs ≤ i → Gathers kind gs i mask
     → (k : ℕ) → bit mask k ≡ (ltb k 64 && held kind (of_groups k gs))
@@ -227,16 +240,16 @@ owner_none s i gs k e f t u =
     groups_only k gs (ap (owned is_table) (sym o) ∙ t) (ap (owned is_uniform) (sym o) ∙ u) ∙ sym o
 
 -- what a layout keeps, from the answers to its questions
-pub kept : (signature total : ℕ) (s : Option PipelineLayoutSpecialConstants) (i : Option ImmediatesInfo) (gs : List (Option BindGroupInfo)) (tables uniforms : ℕ) (p r q : Bool)
-    → p ≡ not (eqb signature 0) → p ≡ true → r ≡ fits total s i gs → r ≡ true → q ≡ once_below (owners s i gs) total → q ≡ true
+pub kept : (signature total : ℕ) (s : Option PipelineLayoutSpecialConstants) (i : Option ImmediatesInfo) (gs : List (Option BindGroupInfo)) (tables uniforms : ℕ) (r q : Bool)
+    → (signature ≡ 0 → ⊥) → r ≡ fits total s i gs → r ≡ true → q ≡ once_below (owners s i gs) total → q ≡ true
     → ((k : ℕ) → bit tables k ≡ (ltb k 64 && held is_table (of_groups k gs))) → ((k : ℕ) → bit uniforms k ≡ (ltb k 64 && held is_uniform (of_groups k gs)))
     → (sound signature total s i gs ≡ true)
     × ((k : ℕ) → bit tables k ≡ owned is_table (owner_of s i gs k))
     × ((k : ℕ) → bit uniforms k ≡ owned is_uniform (owner_of s i gs k))
-kept signature total s i gs tables uniforms p r q n signed f fitting o once t u =
+kept signature total s i gs tables uniforms r q n f fitting o once t u =
     let fit = sym f ∙ fitting in
     let one = sym o ∙ once in (
-      and_from (not (eqb signature 0)) (fits total s i gs && once_below (owners s i gs) total) (sym n ∙ signed)
+      and_from (not (eqb signature 0)) (fits total s i gs && once_below (owners s i gs) total) (ap not (ne_eqb signature 0 n))
           (and_from (fits total s i gs) (once_below (owners s i gs) total) fit one),
       mask_owner total s i gs fit one is_table tables refl refl t,
       mask_owner total s i gs fit one is_uniform uniforms refl refl u,

@@ -1,27 +1,19 @@
 -- The loops over groups, entries and slots: one step, and the end.
-use Rattle.std.proofs.Common.{◌≡◌, ℕ, ◌+◌, ◌<◌, ◌≤◌, Bool, true, false, cond, ◌&&◌, eqb, ltb, List, [], ◌∷◌, length, get_or, drop, set, replicate, Some, None, Decides, Option, sym, refl, ap, ◌∙◌, ⊎_elim, arith, length-append, below_more}
-use Rattle.std.proofs.lemmas.List.FromFn.{fill_by_all}
-use Rattle.std.proofs.lemmas.List.{at_drop_more, at_drop_all, length-set, get_or-set_same, get_or-set_other, get_or-replicate}
-use Rattle.std.proofs.lemmas.Bool.{le-ltb, lt-ltb, eq-eqb, ne_eqb, cases_eq, cases_Bool}
+use Rattle.std.proofs.Common.{◌≡◌, ℕ, zero, suc, ◌*◌, ◌<◌, ◌≤◌, Bool, true, false, cond, ◌&&◌, eqb, List, [], ◌∷◌, map, length, get_or, drop, set, replicate, Some, None, Decides, Option, sym, refl, ap, ◌∙◌, ⊎_elim, add-one, arith, length-append}
+use Rattle.std.specs.List.{list_all, range_with_len}
+use Rattle.std.proofs.lemmas.List.Folds.{list_all-append, list_all-map}
+use Rattle.std.proofs.lemmas.List.FromFn.{fill_by_all, map-range_with_len_more}
+use Rattle.std.proofs.lemmas.List.{at_drop_all, length-set, get_or-set_same, get_or-set_other, get_or-replicate}
+use Rattle.std.proofs.lemmas.Bool.{eq-eqb, ne_eqb, cases_eq}
 use Rattle.std.proofs.lemmas.Bool.Decides.{Decides-below_and, Decides-eqb}
 use Rattle.layouts.specs.declared.info.BindGroupInfo.{BindGroupInfo}
 use Rattle.layouts.specs.declared.info.GroupEntry.{GroupEntry}
 use Rattle.layouts.specs.declared.info.Owner.{Owner}
 use Rattle.layouts.specs.Owners.{when, of_group, of_groups, group_within, groups_within, indexed, later, latest, placed, once_below}
 
-module _ (total : ℕ) (gs : List (Option BindGroupInfo)) (i : ℕ) (h : i < length gs)
-    (inv : groups_within total (drop i gs) ≡ groups_within total gs) where
-  within_step : groups_within total gs ≡ (group_within total (get_or gs i None) && groups_within total (drop (i + 1) gs))
-  within_step = sym inv ∙ at_drop_more (groups_within total) gs i None h
-
-  pub within_stops : false ≡ group_within total (get_or gs i None) → false ≡ groups_within total gs
-  within_stops e = sym (within_step ∙ ap (λ b. b && groups_within total (drop (i + 1) gs)) (sym e))
-
-  pub within_more : true ≡ group_within total (get_or gs i None) → groups_within total (drop (i + 1) gs) ≡ groups_within total gs
-  within_more e = sym (within_step ∙ ap (λ b. b && groups_within total (drop (i + 1) gs)) (sym e))
-
-pub within_all : (total : ℕ) (gs : List (Option BindGroupInfo)) (i : ℕ) → length gs ≤ i → groups_within total (drop i gs) ≡ groups_within total gs → true ≡ groups_within total gs
-within_all total gs i h inv = sym (at_drop_all (groups_within total) gs i h) ∙ inv
+pub all_within : (total : ℕ) (gs : List (Option BindGroupInfo)) → list_all (group_within total) gs ≡ groups_within total gs
+all_within total [] = refl
+all_within total (g ∷ gs) = ap (λ b. group_within total g && b) (all_within total gs)
 
 -- the groups, once the entries are put at their indices, one after the other
 abbrev pub placing : List (Option BindGroupInfo) → List GroupEntry → List (Option BindGroupInfo)
@@ -61,24 +53,6 @@ placing_placed es =
     fill_by_all (latest es) (placing (replicate 8 None) es) 8 None (placing_length (replicate 8 None) es)
     (λ k h. placing_at (replicate 8 None) es k h ∙ ap (later (latest es k)) (get_or-replicate 8 k None None h) ∙ none_later (latest es k))
 
-module _ (gs : List (Option BindGroupInfo)) (es : List GroupEntry) (i : ℕ) (d : GroupEntry) (h : i < length es)
-    (inv : (indexed (drop i es) ≡ indexed es) × (placing gs (drop i es) ≡ placing (replicate 8 None) es) × (length gs ≡ 8)) where
-  indexed_step : indexed es ≡ (ltb (get_or es i d).index 8 && indexed (drop (i + 1) es))
-  indexed_step = sym inv.0 ∙ at_drop_more indexed es i d h
-
-  pub place_stops : 8 ≤ (get_or es i d).index → indexed es ≡ false
-  place_stops l = indexed_step ∙ ap (λ b. b && indexed (drop (i + 1) es)) (le-ltb (get_or es i d).index 8 l)
-
-  pub place_more : (get_or es i d).index < 8
-      → (indexed (drop (i + 1) es) ≡ indexed es)
-      × (placing (set gs (get_or es i d).index (Some (get_or es i d).info)) (drop (i + 1) es) ≡ placing (replicate 8 None) es)
-      × (length (set gs (get_or es i d).index (Some (get_or es i d).info)) ≡ 8)
-  place_more l = (
-    sym (indexed_step ∙ ap (λ b. b && indexed (drop (i + 1) es)) (lt-ltb (get_or es i d).index 8 l)),
-    sym (at_drop_more (placing gs) es i d h) ∙ inv.1,
-    length-set gs (get_or es i d).index (Some (get_or es i d).info) ∙ inv.2,
-  )
-
 pub place_all : (gs : List (Option BindGroupInfo)) (es : List GroupEntry) (i : ℕ) → length es ≤ i
     → (indexed (drop i es) ≡ indexed es) × (placing gs (drop i es) ≡ placing (replicate 8 None) es) × (length gs ≡ 8)
     → (indexed es ≡ true) × (gs ≡ placed es)
@@ -90,30 +64,37 @@ when_few : (b : Bool) (o : Owner) → length (when b o) ≤ 1
 when_few true o = omega arith
 when_few false o = omega arith
 
-pub group_few : (k : ℕ) (g : Option BindGroupInfo) → length (of_group k g) ≤ 2
+group_few : (k : ℕ) (g : Option BindGroupInfo) → length (of_group k g) ≤ 2
 group_few k None = omega arith
 group_few k (Some g) = simp length-append (omega (arith, when_few, when_few))
 
-pub groups_more : (k : ℕ) (gs : List (Option BindGroupInfo)) (i : ℕ) → i < length gs
-    → length (of_groups k (drop i gs)) ≡ length (of_group k (get_or gs i None)) + length (of_groups k (drop (i + 1) gs))
-groups_more k gs i h =
-    ap length (at_drop_more (of_groups k) gs i None h) ∙ length-append (of_group k (get_or gs i None)) (of_groups k (drop (i + 1) gs))
-
-pub groups_all : (k : ℕ) (gs : List (Option BindGroupInfo)) (i : ℕ) → length gs ≤ i → length (of_groups k (drop i gs)) ≡ 0
-groups_all k gs i h = ap length (at_drop_all (of_groups k) gs i h)
+pub groups_few : (k : ℕ) (gs : List (Option BindGroupInfo)) → length (of_groups k gs) ≤ 2 * length gs
+groups_few k [] = omega arith
+groups_few k (g ∷ gs) = omega (arith, length-append (of_group k g) (of_groups k gs), group_few k g, groups_few k gs)
 
 -- what `once_below` decides
 pub once_decides : (f : ℕ → List Owner) (n : ℕ) → Decides (once_below f n) ((k : ℕ) → k < n → length (f k) ≡ 1)
 unfolding once_below
 once_decides f n = Decides-below_and (λ k. eqb (length (f k)) 1) (λ k. length (f k) ≡ 1) (once_below f) (λ k. Decides-eqb (length (f k)) 1) refl (λ _. refl) n
 
-pub once_none : (f : ℕ → List Owner) → once_below f 0 ≡ true
+pub all_once : (f : ℕ → List Owner) (n : ℕ) → list_all (λ k. eqb (length (f k)) 1) (range_with_len 0 n) ≡ once_below f n
 unfolding once_below
-once_none f = refl
+all_once f zero = refl
+all_once f (suc n) =
+    sym (list_all-map one count (range_with_len 0 (suc n)))
+    ∙ ap (list_all one) (ap (λ j. map count (range_with_len 0 j)) (sym (add-one n)) ∙ map-range_with_len_more count 0 n n (omega arith))
+    ∙ list_all-append one (map count (range_with_len 0 n)) (count n ∷ [])
+    ∙ ap (λ b. b && (one (count n) && true)) (list_all-map one count (range_with_len 0 n) ∙ all_once f n)
+    ∙ turn (once_below f n) (one (count n))
+  where
+    count : ℕ → ℕ
+    count k = length (f k)
 
-pub once_more : (f : ℕ → List Owner) (n : ℕ) → once_below f n ≡ true → length (f n) ≡ 1 → once_below f (n + 1) ≡ true
-once_more f n h e =
-    (once_decides f (n + 1)).1 (below_more (λ k. length (f k) ≡ 1) n ((once_decides f n).0 h) e)
+    one : ℕ → Bool
+    one m = eqb m 1
 
-pub once_stops : (f : ℕ → List Owner) (n t : ℕ) → n < t → (length (f n) ≡ 1 → ⊥) → false ≡ once_below f t
-once_stops f n t h g = ⊎_elim (λ e. absurd (g ((once_decides f t).0 e n h))) (λ e. sym e) (cases_Bool (once_below f t))
+    turn : (a b : Bool) → (a && (b && true)) ≡ (b && a)
+    turn true true = refl
+    turn true false = refl
+    turn false true = refl
+    turn false false = refl

@@ -2,4 +2,5 @@ pub mod Bits
 pub mod Equal
 pub mod EqualLaws
 pub mod Layouts
+pub mod Names
 pub mod Owners

@@ -1,4 +1,5 @@
 // The parts of a layout.
+use std::fmt;
 
 // How many bind groups a layout can have.
 pub const MAX_BIND_GROUPS: usize = 8;
@@ -39,4 +40,21 @@ pub enum Owner {
     Uniform,
     Immediates,
     Special,
+}
+
+// The name of what a slot is for.
+impl fmt::Display for Owner {
+    ghost use Rattle.std.specs.Prelude.{Some};
+    ghost use Rattle.layouts.specs.Names.{name_of};
+
+    ghost output = { λ o. Some (name_of o) };
+
+    fn fmt<W: fmt::Write>(&self, f: &mut fmt::Formatter<W>) -> fmt::Result {
+        f.write_str(match self {
+            Owner::Table => "table",
+            Owner::Uniform => "uniform",
+            Owner::Immediates => "immediates",
+            Owner::Special => "special constants",
+        })
+    }
 }

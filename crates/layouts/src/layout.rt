@@ -4,8 +4,7 @@ ghost use Rattle.command_list.specs.Seen.{number_of};
 ghost use Rattle.layouts.specs.Bits.{bit};
 ghost use Rattle.layouts.specs.Owners.{sound, owner_of, owned, is_table, is_uniform, placed, verdict};
 
-use crate::checks::{RANGE, fits, immediates_at, is_signed, masks, once, place, special_at};
-use crate::equal::{equal_groups, equal_immediates, equal_special};
+use crate::checks::{RootParts, place};
 use crate::info::{
     BindGroupInfo, GroupEntry, ImmediatesInfo, MAX_BIND_GROUPS, Owner,
     PipelineLayoutSpecialConstants,
@@ -13,7 +12,8 @@ use crate::info::{
 use crate::mask::has;
 use command_list::fault::{Fault, Number};
 
-// What a pipeline expects at its root slots. The masks have the slots of tables and of uniforms.
+// What a pipeline expects at its root slots. The masks have the slots of tables and of uniforms. The parts stand
+// singly, since contracts above name them so.
 #[derive(Clone, Copy)]
 pub struct PipelineLayout {
     signature: u32,
@@ -40,29 +40,28 @@ impl PipelineLayout {
         ensures answer { MatchResult result (λ _. verdict signature total special immediates groups.now ≡ None) (λ f. (verdict signature total special immediates groups.now ≡ Some (number_of f.number)) × (f.place ≡ 0)) }
         ensures parts { IfOk result (λ l. (l.signature ≡ signature) × (l.total_root_elements ≡ total) × (l.special_constants ≡ special) × (l.immediates_info ≡ immediates) × (l.bind_group_infos ≡ placed groups.now)) }
     {
-        if !is_signed(signature) {
-            return Err(RANGE);
+        if signature == 0 {
+            return Err(Number::Range.at(0));
         }
-        let infos = place(groups)?;
-        if !fits(total, special, immediates, &infos) {
-            return Err(Fault {
-                number: Number::Slots,
-                place: 0,
-            });
+        let groups = place(groups)?;
+        let parts = RootParts {
+            special,
+            immediates,
+            groups,
+        };
+        if !parts.fits(total) {
+            return Err(Number::Slots.at(0));
         }
-        if !once(total, special, immediates, &infos) {
-            return Err(Fault {
-                number: Number::Owners,
-                place: 0,
-            });
+        if !parts.once(total) {
+            return Err(Number::Owners.at(0));
         }
-        let (tables, uniforms) = masks(&infos);
+        let (tables, uniforms) = parts.masks();
         Ok(PipelineLayout {
             signature,
             total_root_elements: total,
             special_constants: special,
             immediates_info: immediates,
-            bind_group_infos: infos,
+            bind_group_infos: groups,
             tables,
             uniforms,
         })
@@ -72,10 +71,10 @@ impl PipelineLayout {
     pub fn owner(&self, slot: u32) -> Option<Owner>
         ensures { result ≡ owner_of self.now.special_constants self.now.immediates_info self.now.bind_group_infos slot }
     {
-        if special_at(self.special_constants, slot) {
+        if self.special_constants.is_some_and(|c| c.root_index == slot) {
             return Some(Owner::Special);
         }
-        if immediates_at(self.immediates_info, slot) {
+        if self.immediates_info.is_some_and(|i| i.root_index == slot) {
             return Some(Owner::Immediates);
         }
         if has(self.tables, slot) {
@@ -116,10 +115,7 @@ impl PipelineLayout {
     pub fn group(&self, index: u32) -> Option<BindGroupInfo>
         ensures { result ≡ slice_index_or self.now.bind_group_infos index None }
     {
-        match self.bind_group_infos.get(index as usize) {
-            Some(info) => *info,
-            None => None,
-        }
+        self.bind_group_infos.get(index as usize).copied().flatten()
     }
 
     // The slots that tables own.
@@ -137,7 +133,8 @@ impl PipelineLayout {
     }
 }
 
-// Two layouts are equal when their parts are; the masks follow from these.
+// Two layouts are equal when their parts are; the masks follow from these. By hand, since a derive would promise
+// a test of its own, which has the masks in it too, and contracts above name `same_layout`.
 impl PartialEq for PipelineLayout {
     ghost use Rattle.layouts.specs.Equal.{same_layout};
     ghost use Rattle.layouts.specs.EqualLaws.{layout_per};
@@ -150,17 +147,9 @@ impl PartialEq for PipelineLayout {
         ensures test { result ≡ same_layout self.now other.now }
         ensures equal { Decides result (self.now ≡ other.now) }
     {
-        if self.signature != other.signature
-            || self.total_root_elements != other.total_root_elements
-        {
-            return false;
-        }
-        if !equal_special(self.special_constants, other.special_constants) {
-            return false;
-        }
-        if !equal_immediates(self.immediates_info, other.immediates_info) {
-            return false;
-        }
-        equal_groups(&self.bind_group_infos, &other.bind_group_infos)
+        (self.signature, self.total_root_elements) == (other.signature, other.total_root_elements)
+            && self.special_constants == other.special_constants
+            && self.immediates_info == other.immediates_info
+            && self.bind_group_infos == other.bind_group_infos
     }
 }

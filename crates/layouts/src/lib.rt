@@ -2,7 +2,6 @@
 #![tactic(auto)]
 
 mod checks;
-mod equal;
 pub mod info;
 pub mod laws;
 pub mod layout;

@@ -2,8 +2,8 @@
 use Rattle.std.proofs.Common.{◌≡◌, ℕ, ◌+◌, ◌<◌, ◌≤◌, List, [], ◌∷◌, ◌++◌, length, get_or, take, drop, set, Some, None, Option, sym, refl, ap, ◌∙◌, ap₂, arith, length-append, length-set}
 use Rattle.std.specs.List.{between}
 use Rattle.std.specs.Option.{option_to_list}
-use Rattle.std.proofs.lemmas.List.{append-nil, append_assoc, take_more, take-set, get_or-set_same, take_all, take-set-le, map-append, take-append-drop, length_push}
-use Rattle.std.proofs.lemmas.List.Edits.{between_more, between_none}
+use Rattle.std.proofs.lemmas.List.{append-nil, append_assoc, take_more, take-set, get_or-set_same, take-set-le, map-append, take-append-drop, length_push}
+use Rattle.std.proofs.lemmas.List.Edits.{between_more}
 use Rattle.std.proofs.lemmas.Slice.{between_is}
 use Rattle.command_list.specs.declared.command.Barrier.{Barrier}
 use Rattle.resources.specs.declared.barrier.ResourceBarrier.{ResourceBarrier as Item}
@@ -42,9 +42,6 @@ module _ {U : Type 0} (usage : U → Usage) where
     pub long : length xs ≡ length first
     pub below : take was xs ≡ take was first
     pub made_so_far : between was fill xs ≡ made (take i bs)
-
-  pub filled_none : (was : ℕ) (xs : List Barrier) (bs : List (Item U)) → Filled was was xs xs bs 0
-  filled_none was xs bs = record { from = omega arith; within = λ h. absurd (omega arith); long = refl; below = refl; made_so_far = between_none xs was }
 
   module _ (was fill : ℕ) (xs first : List Barrier) (bs : List (Item U)) (i : ℕ) (b : Item U) (l : i < length bs) (at : b ≡ get_or bs i b) (inv : Filled was fill xs first bs i) where
     pub turn_keeps : barrier_of (change_of usage b) ≡ None → Filled was fill xs first bs (i + 1)
@@ -85,10 +82,3 @@ module _ {U : Type 0} (usage : U → Usage) where
     turn_full e s h =
         let n = ap length (more e s) ∙ length_push (made (take i bs)) e in
         (omega (arith, n, made_front bs (i + 1)), omega (arith, n, made_front bs (i + 1), inv.from, inv.long))
-
-  pub all_filled : (was fill : ℕ) (xs first : List Barrier) (bs : List (Item U)) (i : ℕ) → length bs ≤ i → Filled was fill xs first bs i
-      → (fill ≡ was + length (made bs)) × (0 < length (made bs) → fill ≤ length first) × (between was fill xs ≡ made bs)
-  all_filled was fill xs first bs i l inv =
-      let e : made (take i bs) ≡ made bs = ap made (take_all i bs l) in
-      let n = ap length e in
-      (omega (arith, inv.from, n), (λ h. inv.within (omega (arith, inv.from, n))), inv.made_so_far ∙ e)

@@ -1,37 +1,27 @@
 -- The barrier rule by cases, and the first item that fails a question.
-use Rattle.std.proofs.Common.{◌≡◌, ℕ, zero, suc, ◌+◌, ◌<◌, ◌≤◌, Bool, true, false, List, [], ◌∷◌, length, get_or, drop, Some, None, Ok, Err, Option, Result, sym, refl, ap, ◌∙◌, subst, ap₂, inl, inr, ⊎_elim, arith}
-use Rattle.std.proofs.lemmas.Bool.{ne_eqb, cond-true, cond-false, cases_Bool}
-use Rattle.std.proofs.lemmas.List.{at_drop_more, at_drop_all}
+use Rattle.std.proofs.Common.{◌≡◌, ℕ, zero, suc, ◌+◌, ◌<◌, Bool, true, false, cond, not, List, [], ◌∷◌, length, get_or, Some, None, Ok, Err, Option, Result, sym, refl, ap, ◌∙◌, subst, inl, inr, ⊎_elim, arith}
+use Rattle.std.proofs.lemmas.Bool.{cond-true, cond-false, cases_Bool}
+use Rattle.std.specs.List.{position, position_from}
+use Rattle.std.proofs.lemmas.Iterator.Adapters.{position_from-zero}
 use Rattle.command_list.specs.declared.fault.Fault.{Fault}
 use Rattle.command_list.specs.Seen.{number_of}
 use Rattle.resources.specs.declared.barrier.ResourceBarrier.{ResourceBarrier}
-use Rattle.resources.specs.Usages.{Usage, state_of}
-use Rattle.resources.specs.Barriers.{Change, transition, barrier_of, in_range, present, first_from, Why, refused_at, or_else, verdict, answered, All, First, Decided}
+use Rattle.resources.specs.Usages.{Usage}
+use Rattle.resources.specs.Barriers.{Change, in_range, present, first_from, Why, refused_at, or_else, verdict, answered, All, First, Decided}
 use Rattle.resources.specs.Listed.{change_of, changes_of}
 
-pub unlike : (c : Change) (b a : ℕ) → b ≡ state_of c.from → a ≡ state_of c.to → (b ≡ a → ⊥) → Some (transition c.resource b a) ≡ barrier_of c
-unlike c b a p q n =
-    let m : state_of c.from ≡ state_of c.to → ⊥ = λ e. n (p ∙ e ∙ sym q) in
-    rw (ne_eqb (state_of c.from) (state_of c.to) m) (ap₂ (λ (x y : ℕ). Some (transition c.resource x y)) p q)
+-- the first item that fails a question, in the library's words
+first_from_position : {U : Type 0} (usage : U → Usage) (good : Change → Bool) (i : ℕ) (bs : List (ResourceBarrier U)) → position_from (λ b. not (good (change_of usage b))) i bs ≡ first_from i good (changes_of usage bs)
+first_from_position usage good i [] = refl
+first_from_position usage good i (b ∷ bs) =
+    let ih = first_from_position usage good (i + 1) bs in
+    elim (good (change_of usage b)) as (λ v. cond (not v) (Some i) (position_from (λ x. not (good (change_of usage x))) (i + 1) bs) ≡ cond v (first_from (i + 1) good (changes_of usage bs)) (Some i)) [
+      | true ↦ ih
+      | false ↦ refl
+    ]
 
-module _ {U : Type 0} (usage : U → Usage) (good : Change → Bool) (bs : List (ResourceBarrier U)) (i : ℕ) where
-  -- a question's answer, as the items from i on say
-  abbrev pub Left : Type 0
-  Left = first_from 0 good (changes_of usage bs) ≡ first_from i good (changes_of usage (drop i bs))
-
-module _ {U : Type 0} (usage : U → Usage) (good : Change → Bool) (bs : List (ResourceBarrier U)) (i : ℕ) (b : ResourceBarrier U) (l : i < length bs) (at : b ≡ get_or bs i b) where
-  next : first_from i good (changes_of usage (drop i bs)) ≡ first_from i good (changes_of usage (b ∷ drop (i + 1) bs))
-  next = at_drop_more (λ (xs : List (ResourceBarrier U)). first_from i good (changes_of usage xs)) bs i b l
-      ∙ ap (λ (x : ResourceBarrier U). first_from i good (changes_of usage (x ∷ drop (i + 1) bs))) (sym at)
-
-  pub passes : good (change_of usage b) ≡ true → Left usage good bs i → Left usage good bs (i + 1)
-  passes t inv = inv ∙ next ∙ cond-true (good (change_of usage b)) (first_from (i + 1) good (changes_of usage (drop (i + 1) bs))) (Some i) t
-
-  pub fails : good (change_of usage b) ≡ false → Left usage good bs i → first_from 0 good (changes_of usage bs) ≡ Some i
-  fails f inv = inv ∙ next ∙ cond-false (good (change_of usage b)) (first_from (i + 1) good (changes_of usage (drop (i + 1) bs))) (Some i) f
-
-pub all_pass : {U : Type 0} (usage : U → Usage) (good : Change → Bool) (bs : List (ResourceBarrier U)) (i : ℕ) → length bs ≤ i → Left usage good bs i → first_from 0 good (changes_of usage bs) ≡ None
-all_pass {U} usage good bs i l inv = inv ∙ at_drop_all (λ (xs : List (ResourceBarrier U)). first_from i good (changes_of usage xs)) bs i l
+pub first_position : {U : Type 0} (usage : U → Usage) (good : Change → Bool) (bs : List (ResourceBarrier U)) → position (λ b. not (good (change_of usage b))) bs ≡ first_from 0 good (changes_of usage bs)
+first_position usage good bs = position_from-zero (λ b. not (good (change_of usage b))) bs ∙ first_from_position usage good 0 bs
 
 -- ---- what the first one is
 

@@ -1,7 +1,8 @@
 -- The digits of a state are what the flags bring.
-use Rattle.std.proofs.Common.{◌≡◌, ℕ, zero, suc, ◌+◌, ◌-◌, ◌*◌, ◌/◌, ◌%◌, ◌^◌, ◌<◌, max, true, false, cond, eqb, ◌⊎◌, List, [], ◌∷◌, length, get_or, sym, ap, ◌∙◌, inl, inr, ⊎_elim, add-zero, add-suc, suc-add, one-mul, pow-suc, zero-add, zero-mul, add-one, one-add, arith, pow_pos}
+use Rattle.std.proofs.Common.{◌≡◌, ℕ, zero, suc, ◌+◌, ◌-◌, ◌*◌, ◌/◌, ◌%◌, ◌^◌, ◌<◌, max, true, false, cond, eqb, ◌⊎◌, List, [], ◌∷◌, length, get_or, refl, sym, ap, ◌∙◌, inl, inr, ⊎_elim, add-zero, add-suc, suc-add, one-mul, pow-suc, zero-add, zero-mul, add-one, one-add, arith, pow_pos}
 use native.Mathlib.Nat.{zero-div}
 use lib.Bits.{bit_and, bit_or, and_high, or_shr, or_step}
+use Rattle.std.specs.List.{fold}
 use Rattle.std.proofs.lemmas.Bool.{ne_eqb, cases_Bool, cases_eq, cond-true, cond-false}
 use Rattle.resources.specs.States.{common, digit, has, flag_state, united, buffer_flags, texture_flags}
 use Rattle.resources.specs.Usages.{Usage, buffer, texture, state_of, Stated}
@@ -87,6 +88,18 @@ module _ (u : ℕ) (ss : List ℕ) (s : ℕ) where
 
   pub all_whole : ((j : ℕ) × (j < length ss) × (has u j ≡ true) × (digit (get_or ss j common) s ≡ 1)) → digit (united u 0 common ss) s ≡ 1
   all_whole h = united_whole u 0 common ss s h.0 h.1 (ap (has u) (zero-add h.0) ∙ h.2) h.3
+
+-- the flags from the one of value 2 ^ k on, each beside what it brings
+abbrev pub beside : ℕ → List ℕ → List (ℕ × ℕ)
+beside k [] = []
+beside k (s ∷ ss) = (2 ^ k, s) ∷ beside (k + 1) ss
+
+-- they are united as a fold over them unites them
+pub united_fold : (u k acc : ℕ) (ss : List ℕ) → fold (λ (x : ℕ) (p : ℕ × ℕ). bit_or x (cond (eqb (bit_and u p.0) 0) 0 p.1)) acc (beside k ss) ≡ united u k acc ss
+united_fold u k acc [] = refl
+united_fold u k acc (s ∷ ss) =
+    ap (λ (y : ℕ). fold (λ (x : ℕ) (p : ℕ × ℕ). bit_or x (cond (eqb (bit_and u p.0) 0) 0 p.1)) (bit_or acc y) (beside (k + 1) ss)) (flag_is u k s)
+    ∙ united_fold u (k + 1) (bit_or acc (flag_state u k s)) ss
 
 pub stated : (u : Usage) (r : ℕ) → r ≡ state_of u → Stated u r
 stated (buffer u) r e = record {

@@ -1,11 +1,13 @@
 // Changes of usage, asked about, put into the scratch as barriers and recorded at once.
-ghost use Rattle.std.specs.Prelude.{◌≡◌, ◌≤◌, length, take};
-ghost use Rattle.resources.specs.Barriers.{barrier_of, barriers_of, refused_at, first_from, in_range, present, verdict, answered, Decided};
+ghost use Rattle.std.specs.Prelude.{◌≡◌, ◌≤◌, Bool, not, length, take};
+ghost use Rattle.command_list.specs.Seen.{number_of};
+ghost use Rattle.resources.specs.declared.barrier.ResourceBarrier.{ResourceBarrier};
+ghost use Rattle.resources.specs.Barriers.{Change, barrier_of, barriers_of, refused_at, first_from, in_range, present, verdict, answered, Decided};
 ghost use Rattle.resources.specs.Listed.{change_of, changes_of};
 ghost use Rattle.resources.specs.Batches.{Batched, Transitioned, Kept, Put};
 
 use crate::barrier::{ResourceBarrier, Uses};
-use crate::scratch::{Mark, NO_ROOM, Restore, Scratch, push};
+use crate::scratch::{Mark, Restore, Scratch};
 use command_list::command::{Barrier, BarrierType};
 use command_list::fault::{Fault, Number};
 use device::recorder::Recorder;
@@ -31,17 +33,13 @@ pub fn barrier<U: Uses>(item: &ResourceBarrier<U>) -> Option<Barrier>
             after,
         });
     }
-    if item.usage.from.is_ordered() {
-        Some(Barrier {
-            kind: BarrierType::Uav,
-            resource: item.resource,
-            subresource: 0,
-            before: 0,
-            after: 0,
-        })
-    } else {
-        None
-    }
+    item.usage.from.is_ordered().then_some(Barrier {
+        kind: BarrierType::Uav,
+        resource: item.resource,
+        subresource: 0,
+        before: 0,
+        after: 0,
+    })
 }
 
 // Both usages have known flags only.
@@ -51,34 +49,19 @@ fn in_range<U: Uses>(item: &ResourceBarrier<U>) -> bool
     item.usage.from.is_known() && item.usage.to.is_known()
 }
 
-// Usages with unknown flags are refused, 1, at the first item that has one.
-fn check_usages<U: Uses>(list: &[ResourceBarrier<U>]) -> Result<(), Fault>
-    ensures { answered result ≡ refused_at 1 (first_from 0 in_range (changes_of U.Uses.usage list.now)) }
+// Changes are refused by a number, at the first one that a test is true of.
+fn check_first<U: Uses, F: FnMut(&ResourceBarrier<U>) -> bool>(
+    list: &[ResourceBarrier<U>],
+    number: Number,
+    fails: F,
+) -> Result<(), Fault>
+    requires { (state : F) (item : _) → F.pre state item }
+    ensures { (good : Change → Bool) → ((item : _) (failed : Bool) (after : F) → F.step fails item failed after → (after ≡ fails) × (failed ≡ not (good (change_of U.Uses.usage item.now)))) → answered result ≡ refused_at (number_of number) (first_from 0 good (changes_of U.Uses.usage list.now)) }
 {
-    for (i, item) in list.iter().enumerate() {
-        if !in_range(item) {
-            return Err(Fault {
-                number: Number::Range,
-                place: i,
-            });
-        }
+    match list.iter().position(fails) {
+        Some(place) => Err(number.at(place)),
+        None => Ok(()),
     }
-    Ok(())
-}
-
-// No resource is refused, 3, at the first item that has none.
-fn check_resources<U: Uses>(list: &[ResourceBarrier<U>]) -> Result<(), Fault>
-    ensures { answered result ≡ refused_at 3 (first_from 0 present (changes_of U.Uses.usage list.now)) }
-{
-    for (i, item) in list.iter().enumerate() {
-        if item.resource == 0 {
-            return Err(Fault {
-                number: Number::Absent,
-                place: i,
-            });
-        }
-    }
-    Ok(())
 }
 
 // What is asked of changes before anything is made of them.
@@ -86,30 +69,29 @@ pub fn check<U: Uses>(list: &[ResourceBarrier<U>]) -> Result<(), Fault>
     ensures answer { answered result ≡ verdict (changes_of U.Uses.usage list.now) }
     ensures decided { Decided (changes_of U.Uses.usage list.now) result }
 {
-    check_usages(list)?;
-    check_resources(list)?;
-    Ok(())
+    check_first(list, Number::Range, |item| !in_range(item))?;
+    check_first(list, Number::Absent, |item| item.resource == 0)
 }
 
 // Puts the barriers of some changes from the fill on.
-fn fill<U: Uses>(
-    entries: &mut [Barrier],
-    mark: &mut Mark,
-    list: &[ResourceBarrier<U>],
-) -> Result<(), Fault>
-    ensures below { take mark.old.fill entries.new ≡ take mark.old.fill entries.old }
-    ensures put { Put mark.old.fill entries.old (barriers_of (changes_of U.Uses.usage list.now)) result mark.new.fill entries.new }
+fn fill<U: Uses>(guard: &mut Restore<'_>, list: &[ResourceBarrier<U>]) -> Result<(), Fault>
+    ensures same_entries { guard.new.entries.ghost_name ≡ guard.old.entries.ghost_name }
+    ensures same_mark { guard.new.mark.ghost_name ≡ guard.old.mark.ghost_name }
+    ensures was { guard.new.was ≡ guard.old.was }
+    ensures long { length guard.new.entries.now ≡ length guard.old.entries.now }
+    ensures below { take guard.old.mark.now.fill guard.new.entries.now ≡ take guard.old.mark.now.fill guard.old.entries.now }
+    ensures put { Put guard.old.mark.now.fill guard.old.entries.now (barriers_of (changes_of U.Uses.usage list.now)) result guard.new.mark.now.fill guard.new.entries.now }
 {
     for item in list {
-        match barrier(item) {
-            Some(made) => push(entries, mark, made)?,
-            None => {}
+        if let Some(made) = barrier(item) {
+            guard.push(made)?;
         }
     }
     Ok(())
 }
 
 // The barriers of some changes in the entries from the fill on, recorded at once. The fill is as before on every way out.
+// Apart from `batch`, since the check takes no `&mut` that is passed on through the scratch's own to the guard.
 fn batch_in<U: Uses, R: Recorder>(
     recorder: &mut R,
     entries: &mut [Barrier],
@@ -120,16 +102,15 @@ fn batch_in<U: Uses, R: Recorder>(
     ensures batched { Batched (R.Recorder.meaning recorder.old) (length entries.old) mark.old.fill (barriers_of (changes_of U.Uses.usage list.now)) result (R.Recorder.meaning recorder.new) }
 {
     if entries.len() > MOST_ENTRIES {
-        return Err(NO_ROOM);
+        return Err(Number::Scratch.at(0));
     }
-    let was = mark.fill;
-    let guard = Restore { mark, was };
-    fill(entries, guard.mark, list)?;
-    let end = guard.mark.fill;
-    if was < end {
-        recorder.resource_barrier(&entries[was..end])?;
+    let mut guard = Restore::new(entries, mark);
+    fill(&mut guard, list)?;
+    let made = guard.made();
+    if made.is_empty() {
+        return Ok(());
     }
-    Ok(())
+    recorder.resource_barrier(made)
 }
 
 // The barriers of some changes, put into a scratch and recorded at once. Refused: a scratch that does not take them, 9;
@@ -158,6 +139,5 @@ pub fn transition<U: Uses, R: Recorder>(
     ensures transitioned { Transitioned (R.Recorder.meaning recorder.old) (length scratch.old.entries.now) scratch.old.mark.fill (changes_of U.Uses.usage list.now) result (R.Recorder.meaning recorder.new) }
 {
     check(list)?;
-    batch(recorder, scratch, list)?;
-    Ok(())
+    batch(recorder, scratch, list)
 }

@@ -1,6 +1,6 @@
 // Usages turned into Direct3D's states.
-ghost use Rattle.std.specs.Prelude.{◌≡◌, if◌then◌else◌, bit_and, nat_eq};
-ghost use Rattle.resources.specs.States.{has, flag_state, common, all_shader_resource};
+ghost use Rattle.std.specs.Prelude.{◌≡◌, if◌then◌else◌, bit_and, bit_or, nat_eq, fold};
+ghost use Rattle.resources.specs.States.{has, common, all_shader_resource};
 ghost use Rattle.resources.specs.Usages.{Stated, buffer, texture};
 
 use crate::uses::{BufferUses, TextureUses};
@@ -35,14 +35,24 @@ fn brings(bits: u32, flag: u32, state: u32) -> u32
     if bits & flag == 0 { COMMON } else { state }
 }
 
+// The state that all flags of a usage bring, of the flags with what each of them brings.
+fn brought(bits: u32, flags: &[(u32, u32)]) -> u32
+    ensures { result ≡ fold (λ s p. bit_or s (if nat_eq (bit_and bits p.0) 0 then 0 else p.1)) 0 flags.now }
+{
+    flags.iter().fold(
+        COMMON,
+        |all, &(flag, state)| all | brings(bits, flag, state),
+    )
+}
+
 // Storage that is only read is a shader's resource, unless it is written too.
 fn reads_storage(bits: u32) -> u32
-    ensures { result ≡ flag_state bits 5 (if has bits 6 then common else all_shader_resource) }
+    ensures { result ≡ (if has bits 6 then common else all_shader_resource) }
 {
     if bits & BufferUses::STORAGE_READ_WRITE != 0 {
         COMMON
     } else {
-        brings(bits, BufferUses::STORAGE_READ_ONLY, ALL_SHADER_RESOURCE)
+        ALL_SHADER_RESOURCE
     }
 }
 
@@ -50,39 +60,35 @@ fn reads_storage(bits: u32) -> u32
 pub fn map_buffer_usage_to_state(usage: BufferUses) -> u32
     ensures { Stated (buffer usage.bits) result }
 {
-    let bits = usage.bits;
-    let mut state = COMMON;
-    state |= brings(bits, BufferUses::COPY_SRC, COPY_SOURCE);
-    state |= brings(bits, BufferUses::COPY_DST, COPY_DEST);
-    state |= brings(bits, BufferUses::INDEX, INDEX_BUFFER);
-    state |= brings(bits, BufferUses::VERTEX, VERTEX_AND_CONSTANT_BUFFER);
-    state |= brings(bits, BufferUses::UNIFORM, VERTEX_AND_CONSTANT_BUFFER);
-    state |= reads_storage(bits);
-    state |= brings(bits, BufferUses::STORAGE_READ_WRITE, UNORDERED_ACCESS);
-    state |= brings(bits, BufferUses::INDIRECT, INDIRECT_ARGUMENT);
-    state |= brings(
-        bits,
-        BufferUses::ACCELERATION_STRUCTURE_QUERY,
-        UNORDERED_ACCESS,
-    );
-    state
+    let flags = [
+        (BufferUses::COPY_SRC, COPY_SOURCE),
+        (BufferUses::COPY_DST, COPY_DEST),
+        (BufferUses::INDEX, INDEX_BUFFER),
+        (BufferUses::VERTEX, VERTEX_AND_CONSTANT_BUFFER),
+        (BufferUses::UNIFORM, VERTEX_AND_CONSTANT_BUFFER),
+        (BufferUses::STORAGE_READ_ONLY, reads_storage(usage.bits)),
+        (BufferUses::STORAGE_READ_WRITE, UNORDERED_ACCESS),
+        (BufferUses::INDIRECT, INDIRECT_ARGUMENT),
+        (BufferUses::ACCELERATION_STRUCTURE_QUERY, UNORDERED_ACCESS),
+    ];
+    brought(usage.bits, &flags)
 }
 
 // The state of a texture that is used so.
 pub fn map_texture_usage_to_state(usage: TextureUses) -> u32
     ensures { Stated (texture usage.bits) result }
 {
-    let bits = usage.bits;
-    let mut state = COMMON;
-    state |= brings(bits, TextureUses::UNINITIALIZED, COMMON);
-    state |= brings(bits, TextureUses::COPY_SRC, COPY_SOURCE);
-    state |= brings(bits, TextureUses::COPY_DST, COPY_DEST);
-    state |= brings(bits, TextureUses::RESOURCE, ALL_SHADER_RESOURCE);
-    state |= brings(bits, TextureUses::COLOR_TARGET, RENDER_TARGET);
-    state |= brings(bits, TextureUses::DEPTH_STENCIL_READ, DEPTH_READ);
-    state |= brings(bits, TextureUses::DEPTH_STENCIL_WRITE, DEPTH_WRITE);
-    state |= brings(bits, TextureUses::STORAGE_READ_ONLY, UNORDERED_ACCESS);
-    state |= brings(bits, TextureUses::STORAGE_WRITE_ONLY, UNORDERED_ACCESS);
-    state |= brings(bits, TextureUses::STORAGE_READ_WRITE, UNORDERED_ACCESS);
-    state
+    let flags = [
+        (TextureUses::UNINITIALIZED, COMMON),
+        (TextureUses::COPY_SRC, COPY_SOURCE),
+        (TextureUses::COPY_DST, COPY_DEST),
+        (TextureUses::RESOURCE, ALL_SHADER_RESOURCE),
+        (TextureUses::COLOR_TARGET, RENDER_TARGET),
+        (TextureUses::DEPTH_STENCIL_READ, DEPTH_READ),
+        (TextureUses::DEPTH_STENCIL_WRITE, DEPTH_WRITE),
+        (TextureUses::STORAGE_READ_ONLY, UNORDERED_ACCESS),
+        (TextureUses::STORAGE_WRITE_ONLY, UNORDERED_ACCESS),
+        (TextureUses::STORAGE_READ_WRITE, UNORDERED_ACCESS),
+    ];
+    brought(usage.bits, &flags)
 }

@@ -1,15 +1,9 @@
 // The host's array of barrier entries, from whose fill on a call may put its own.
-ghost use Rattle.std.specs.Prelude.{◌≡◌, ◌+◌, ◌<◌, ◌≤◌, length, MatchResult, slice_set};
+ghost use Rattle.std.specs.Prelude.{◌≡◌, ◌+◌, ◌-◌, ◌<◌, ◌≤◌, [], length, take, drop, MatchResult, slice_set};
 ghost use Rattle.command_list.specs.Seen.{IsFault};
 
 use command_list::command::Barrier;
 use command_list::fault::{Fault, Number};
-
-// What a scratch answers that does not take what is made.
-pub(crate) const NO_ROOM: Fault = Fault {
-    number: Number::Scratch,
-    place: 0,
-};
 
 // How many entries are in use.
 #[derive(Clone, Copy)]
@@ -24,29 +18,59 @@ pub struct Scratch<'a> {
     pub mark: Mark,
 }
 
-// Puts the fill back where it was, on every way out of a call.
+// A scratch that a call fills: entries are put from the fill on, and on every way out the fill is back where it was.
 pub(crate) struct Restore<'a> {
-    pub(crate) mark: &'a mut Mark,
-    pub(crate) was: usize,
+    entries: &'a mut [Barrier],
+    mark: &'a mut Mark,
+    was: usize,
 }
 
 impl Drop for Restore<'_> {
     fn drop(self)
-        ensures { self.exit.0.now.fill ≡ self.entry.was }
+        ensures entries { self.exit.0.now ≡ self.entry.entries.now }
+        ensures fill { self.exit.1.0.now.fill ≡ self.entry.was }
     {
         self.mark.fill = self.was;
-        let Restore { mark: _, was: _ } = self;
+        let Restore {
+            entries: _,
+            mark: _,
+            was: _,
+        } = self;
     }
 }
 
-// Puts one entry at the fill.
-pub(crate) fn push(entries: &mut [Barrier], mark: &mut Mark, barrier: Barrier) -> Result<(), Fault>
-    ensures { MatchResult result (λ _. (mark.old.fill < length entries.old) × (entries.new ≡ slice_set entries.old mark.old.fill barrier) × (mark.new.fill ≡ mark.old.fill + 1)) (λ f. IsFault f 9 0 × (entries.new ≡ entries.old) × (mark.new ≡ mark.old) × (length entries.old ≤ mark.old.fill)) }
-{
-    if mark.fill >= entries.len() {
-        return Err(NO_ROOM);
+impl<'a> Restore<'a> {
+    pub(crate) fn new(entries: &'a mut [Barrier], mark: &'a mut Mark) -> Restore<'a>
+        ensures same_entries { result.entries.ghost_name ≡ entries.entry.ghost_name }
+        ensures same_mark { result.mark.ghost_name ≡ mark.entry.ghost_name }
+        ensures entries { result.entries.now ≡ entries.old }
+        ensures mark { result.mark.now ≡ mark.old }
+        ensures was { result.was ≡ mark.old.fill }
+    {
+        let was = mark.fill;
+        Restore { entries, mark, was }
     }
-    entries[mark.fill] = barrier;
-    mark.fill += 1;
-    Ok(())
+
+    // Puts one entry at the fill.
+    pub(crate) fn push(&mut self, barrier: Barrier) -> Result<(), Fault>
+        ensures same_entries { self.new.entries.ghost_name ≡ self.old.entries.ghost_name }
+        ensures same_mark { self.new.mark.ghost_name ≡ self.old.mark.ghost_name }
+        ensures was { self.new.was ≡ self.old.was }
+        ensures put { MatchResult result (λ _. (self.old.mark.now.fill < length self.old.entries.now) × (self.new.entries.now ≡ slice_set self.old.entries.now self.old.mark.now.fill barrier) × (self.new.mark.now.fill ≡ self.old.mark.now.fill + 1)) (λ f. IsFault f 9 0 × (self.new.entries.now ≡ self.old.entries.now) × (self.new.mark.now ≡ self.old.mark.now) × (length self.old.entries.now ≤ self.old.mark.now.fill)) }
+    {
+        if self.mark.fill >= self.entries.len() {
+            return Err(Number::Scratch.at(0));
+        }
+        self.entries[self.mark.fill] = barrier;
+        self.mark.fill += 1;
+        Ok(())
+    }
+
+    // The entries that the call has put.
+    pub(crate) fn made(&self) -> &[Barrier]
+        ensures within { self.now.was ≤ self.now.mark.now.fill → self.now.mark.now.fill ≤ length self.now.entries.now → result.now ≡ take (self.now.mark.now.fill - self.now.was) (drop self.now.was self.now.entries.now) }
+        ensures past { length self.now.entries.now < self.now.mark.now.fill → result.now ≡ [] }
+    {
+        self.entries.get(self.was..self.mark.fill).unwrap_or(&[])
+    }
 }

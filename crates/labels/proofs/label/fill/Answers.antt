@@ -18,14 +18,8 @@ room c =
     let u : IsUtf8 c.args.text.now = search rules in
     omega (arith, r, inv.0, text_units_le c.args.text.now u, c.requires)
 
-pub offset_bounds-units-n : goal.offset_bounds-units-n
-offset_bounds-units-n c = omega (arith, room c)
-
 pub bounds-units-n : goal.bounds-units-n
 bounds-units-n c = omega (arith, room (goal.at.bounds-units-n c).In-Some)
-
-pub overflow_add-n : goal.overflow_add-n
-overflow_add-n c = omega (arith, room (goal.at.overflow_add-n c).In-Some)
 
 pub loop-unit-preserved : goal.loop-unit-preserved
 loop-unit-preserved c =
