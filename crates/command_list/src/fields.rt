@@ -22,7 +22,8 @@ fn part<const N: usize>(bytes: &[u8], at: usize) -> [u8; N]
     part
 }
 
-// A number of the file, its highest byte first.
+// A number of the file, its highest byte first. The bytes and the place stand as two operands, as in `slice.get(i)`: a
+// struct of both would be made for each number.
 pub trait Wide: Sized {
     ghost value: { Self → ℕ };
 

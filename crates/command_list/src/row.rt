@@ -71,7 +71,7 @@ impl Row for u16 {
     ghost each = { each_every 2 };
 }
 
-// The handles of targets.
+// The handles of targets. Beside the units' this is one more instance, since each shows the laws of its own width.
 impl Row for u64 {
     ghost use Rattle.std.proofs.Common.{rules};
     ghost use Rattle.command_list.specs.RowLaws.{count_every, turn_every, end_every, each_every};

@@ -5,6 +5,7 @@
 #[derive(Clone, Copy)]
 pub struct ColorAttachment {
     pub target: u64,
+    // Flags as the host gives them: others than bit 2 are its own.
     pub ops: u32,
     pub clear_value: [u32; 4],
 }

@@ -37,6 +37,7 @@ impl Operands for u8 {
     }
 }
 
+// One instance for each width: an array's length cannot be a trait's constant.
 impl Operands for u16 {
     ghost laid = { λ s. field 2 s ∷ [] };
 

@@ -208,7 +208,8 @@ pub trait Recordable: Copy {
     fn size(&self) -> Result<usize, Fault>
         ensures { Measured (says self.now) result };
 
-    // Writes its record behind the first `end` bytes, and says where it ends.
+    // Writes its record behind the first `end` bytes, and says where it ends. The bytes are the caller's, who keeps
+    // the end too.
     fn append_to(self, bytes: &mut [u8], end: usize) -> Result<usize, Fault>
         ensures { Written (says self) bytes.old end result bytes.new };
 }
