@@ -1,7 +1,9 @@
--- A mask as a set of places, and what `|`, `&`, `!` and `1 <<` make of it.
-use Rattle.std.proofs.Common.{◌≡◌, ℕ, zero, suc, ◌+◌, ◌-◌, ◌/◌, ◌%◌, ◌^◌, ◌<◌, ◌≤◌, Bool, true, false, not, ◌&&◌, ◌||◌, eqb, ltb, leb, ◌⊎◌, sym, refl, ap, ◌∙◌, inl, inr, ⊎_elim, mod-lt, zero-lt-suc, pow-suc, div-add-mod', arith}
-use lib.Bits.{bit_and, bit_or, or_shr, or_mod}
-use Rattle.std.proofs.lemmas.Bool.{eqb-true, cases_lt, lt-ltb, le-ltb}
+-- A mask as a set of places: the lowest one, and what `|`, `&`, `^`, `!` and `1 <<` make of it.
+use Rattle.std.proofs.Common.{◌≡◌, ℕ, zero, suc, ◌+◌, ◌-◌, ◌*◌, ◌/◌, ◌%◌, ◌^◌, ◌<◌, ◌≤◌, Bool, true, false, cond, not, ◌&&◌, ◌||◌, eqb, ltb, leb, ◌≢◌, ◌⊎◌, sym, refl, ap, ◌∙◌, subst, ap₂, inl, inr, ⊎_elim, not-suc-le-zero, mod-lt, zero-lt-suc, pow-suc, div-add-mod', arith}
+use lib.Dec.{eqb-zero-suc, eqb-suc-zero, eqb-suc-suc}
+use lib.Bits.{bit_and, bit_or, bit_xor, differ, xor_step, xor_zero_r, xor_shr, or_shr, xor_mod, or_mod}
+use lib.Count.{count_trailing_zeros, under}
+use Rattle.std.proofs.lemmas.Bool.{eqb-true, eq-eqb, ne_eqb, cases_lt, lt-ltb, le-ltb}
 use Rattle.std.proofs.lemmas.Nat.{pow_pos, shr-shr, and_shr, and_mod}
 use Rattle.std.proofs.lemmas.Bool.Decides.{nat_tests}
 use Rattle.layouts.specs.Bits.{bit}
@@ -16,6 +18,49 @@ digit n = go (n % 2) (mod-lt n (zero-lt-suc 1))
 
 half_below : (k m : ℕ) → m < 2 ^ suc k → m / 2 < 2 ^ k
 half_below k m h = omega (arith, pow-suc 2 k, div-add-mod' m 2)
+
+-- The lowest set place of a mask that is not 0.
+pub record Lowest (m i : ℕ) : Type 0 where
+  pub here : bit m i ≡ true
+  pub below : (s : ℕ) → s < i → bit m s ≡ false
+
+Found : ℕ → ℕ → ℕ → Type 0
+unfolding count_trailing_zeros
+Found k m d = (under d (count_trailing_zeros k (m / 2)) < suc k) × Lowest m (under d (count_trailing_zeros k (m / 2)))
+
+even_found : (k m : ℕ) → m % 2 ≡ 0 → (count_trailing_zeros k (m / 2) < k) × Lowest (m / 2) (count_trailing_zeros k (m / 2)) → Found k m 0
+unfolding Found bit
+even_found k m e ih = (omega (arith, ih.0), record { here = ih.1.here; below = λ s. low s })
+  where
+    low : (s : ℕ) → s < suc (count_trailing_zeros k (m / 2)) → bit m s ≡ false
+    low zero g = ap (λ d. eqb d 1) e
+    low (suc s) g = ih.1.below s (omega arith)
+
+odd_found : (k m : ℕ) → m % 2 ≡ 1 → Found k m 1
+unfolding Found bit
+odd_found k m e = (zero-lt-suc k, record { here = ap (λ d. eqb d 1) e; below = λ s g. absurd (not-suc-le-zero g) })
+
+pub trailing_lowest : (k m : ℕ) → 0 < m → m < 2 ^ k → (count_trailing_zeros k m < k) × Lowest m (count_trailing_zeros k m)
+unfolding count_trailing_zeros Found
+trailing_lowest zero m p h = absurd (omega arith)
+trailing_lowest (suc k) m p h =
+    ⊎_elim
+    (λ e. subst (Found k m) (sym e) (even_found k m e (trailing_lowest k (m / 2) (omega (arith, div-add-mod' m 2)) (half_below k m h))))
+    (λ e. subst (Found k m) (sym e) (odd_found k m e))
+    (digit m)
+
+pub bit_pow : (i s : ℕ) → bit (2 ^ i) s ≡ eqb s i
+unfolding bit
+bit_pow zero zero = refl
+bit_pow zero (suc s) = none s ∙ sym (eqb-suc-zero s)
+  where
+    none : (s : ℕ) → bit 0 s ≡ false
+    none zero = refl
+    none (suc s) = none s
+bit_pow (suc i) zero =
+    let e : 2 ^ suc i % 2 ≡ 0 = omega (arith, pow-suc 2 i) in ap (λ d. eqb d 1) e ∙ sym (eqb-zero-suc i)
+bit_pow (suc i) (suc s) =
+    let e : 2 ^ suc i / 2 ≡ 2 ^ i = omega (arith, pow-suc 2 i) in ap (λ n. bit n s) e ∙ bit_pow i s ∙ sym (eqb-suc-suc s i)
 
 -- An operation that goes digit by digit, from what it does to single digits.
 module _ (op : ℕ → ℕ → ℕ) (f : Bool → Bool → Bool)
@@ -35,11 +80,39 @@ module _ (op : ℕ → ℕ → ℕ) (f : Bool → Bool → Bool)
   by_digits x y (inr p) (inl q) = rw (p, q) io
   by_digits x y (inr p) (inr q) = rw (p, q) ii
 
+abbrev pub differs : Bool → Bool → Bool
+differs true b = not b
+differs false b = b
+
+pub bit_xor_lem : (a b s : ℕ) → bit (bit_xor a b) s ≡ differs (bit a s) (bit b s)
+bit_xor_lem a b s = by_bits bit_xor differs xor_shr xor_mod (by_digits bit_xor differs refl refl refl refl) s a b
+
 pub bit_or_lem : (a b s : ℕ) → bit (bit_or a b) s ≡ (bit a s || bit b s)
 bit_or_lem a b s = by_bits bit_or ◌||◌ or_shr or_mod (by_digits bit_or ◌||◌ refl refl refl refl) s a b
 
 pub bit_and_lem : (a b s : ℕ) → bit (bit_and a b) s ≡ (bit a s && bit b s)
 bit_and_lem a b s = by_bits bit_and ◌&&◌ and_shr and_mod (by_digits bit_and ◌&&◌ refl refl refl refl) s a b
+
+-- The place i taken out of a mask that has it, and the others as they were.
+pub out_here : (m i : ℕ) → bit m i ≡ true → bit (bit_xor m (2 ^ i)) i ≡ false
+out_here m i h = bit_xor_lem m (2 ^ i) i ∙ ap₂ differs h (bit_pow i i ∙ eq-eqb i i refl)
+
+pub out_other : (m i s : ℕ) → s ≢ i → bit (bit_xor m (2 ^ i)) s ≡ bit m s
+out_other m i s n = bit_xor_lem m (2 ^ i) s ∙ ap (differs (bit m s)) (bit_pow i s ∙ ne_eqb s i n) ∙ same (bit m s)
+  where
+    same : (b : Bool) → differs b false ≡ b
+    same true = refl
+    same false = refl
+
+-- The place i put into a mask.
+pub in_at : (m i s : ℕ) → bit (bit_or m (2 ^ i)) s ≡ cond (eqb s i) true (bit m s)
+in_at m i s = bit_or_lem m (2 ^ i) s ∙ ap (λ b. bit m s || b) (bit_pow i s) ∙ turn (bit m s) (eqb s i)
+  where
+    turn : (a b : Bool) → (a || b) ≡ cond b true a
+    turn true true = refl
+    turn true false = refl
+    turn false true = refl
+    turn false false = refl
 
 pub bit_none : (s : ℕ) → bit 0 s ≡ false
 unfolding bit
@@ -66,6 +139,25 @@ unfolding bit
 bit_high zero m s h g = ap (λ n. bit n s) (let e : m ≡ 0 = omega arith in e) ∙ bit_none s
 bit_high (suc k) m zero h g = absurd (omega arith)
 bit_high (suc k) m (suc s) h g = bit_high k (m / 2) s (half_below k m h) (omega arith)
+
+-- It is smaller without one of its places.
+pub out_less : (i m : ℕ) → bit m i ≡ true → bit_xor m (2 ^ i) < m
+unfolding bit
+out_less zero m h =
+    let odd : m % 2 ≡ 1 = eqb-true (m % 2) 1 h in
+    let e : bit_xor m 1 ≡ m / 2 * 2 + 0 = xor_step m 1 ∙ ap₂ (λ x d. x * 2 + differ d 1) (xor_zero_r (m / 2)) odd in
+    omega (arith, e, div-add-mod' m 2)
+out_less (suc i) m h =
+    let ih = out_less i (m / 2) h in
+    let down : 2 ^ suc i / 2 ≡ 2 ^ i = omega (arith, pow-suc 2 i) in
+    let even : 2 ^ suc i % 2 ≡ 0 = omega (arith, pow-suc 2 i) in
+    let e : bit_xor m (2 ^ suc i) ≡ bit_xor (m / 2) (2 ^ i) * 2 + m % 2 =
+    xor_step m (2 ^ suc i) ∙ ap₂ (λ x d. bit_xor (m / 2) x * 2 + differ (m % 2) d) down even ∙ ap (λ d. bit_xor (m / 2) (2 ^ i) * 2 + d) (alone (digit m)) in
+    omega (arith, e, div-add-mod' m 2)
+  where
+    alone : (m % 2 ≡ 0) ⊎ (m % 2 ≡ 1) → differ (m % 2) 0 ≡ m % 2
+    alone (inl p) = rw p
+    alone (inr p) = rw p
 
 -- All places below k that a mask of k digits has not.
 pub bit_not : (k m s : ℕ) → m < 2 ^ k → s < k → bit (2 ^ k - 1 - m) s ≡ not (bit m s)
