@@ -17,10 +17,8 @@ fn resolved(address: u64, whole: u64, offset: u64, size: u64) -> Option<(u64, u3
         offset,
         size,
     };
-    match binding.resolve() {
-        Ok(there) => Some((there.address, there.size)),
-        Err(_) => None,
-    }
+    let there = binding.resolve().ok()?;
+    Some((there.address, there.size))
 }
 
 #[test]
@@ -45,26 +43,19 @@ fn rectangles_end_below_2_to_the_31(rt: HostRuntime) -> Result<(), Fail> {
         w: 2_147_483_646,
         h: 3,
     };
-    match rect.bounds() {
-        Ok(b) => assert_eq!(rt;
-            (b.left, b.top, b.right, b.bottom),
-            (1, 2, 2_147_483_647, 5)
-        ),
-        Err(_) => return Err(Fail::new("refused")),
-    }
+    let b = rect.bounds()?;
+    assert_eq!(rt;
+        (b.left, b.top, b.right, b.bottom),
+        (1, 2, 2_147_483_647, 5)
+    );
     let rect = Rect {
         x: 1,
         y: 0,
         w: 2_147_483_647,
         h: 0,
     };
-    match rect.bounds() {
-        Ok(_) => Err(Fail::new("taken")),
-        Err(fault) => {
-            assert!(rt; fault.number == Number::Extent && fault.place == 0);
-            Ok(())
-        },
-    }
+    assert_eq!(rt; rect.bounds().err(), Some(Number::Extent.at(0)));
+    Ok(())
 }
 
 #[test]
@@ -72,16 +63,11 @@ fn extents_and_their_patterns(rt: HostRuntime) -> Result<(), Fail> {
     assert!(rt; Extent::new(0, 1).is_err() && Extent::new(1, 0).is_err());
     assert!(rt; Extent::new(16385, 1).is_err() && Extent::new(1, 16385).is_err());
     assert!(rt; Extent::new(1, 16384).is_ok() && Extent::new(16384, 1).is_ok());
-    match Extent::new(640, 480) {
-        Ok(extent) => {
-            assert_eq!(rt;
-                extent.viewport(),
-                [0, 0, 0x4420_0000, 0x43F0_0000, 0, 0x3F80_0000]
-            );
-            Ok(())
-        },
-        Err(_) => Err(Fail::new("refused")),
-    }
+    assert_eq!(rt;
+        Extent::new(640, 480)?.viewport(),
+        [0, 0, 0x4420_0000, 0x43F0_0000, 0, 0x3F80_0000]
+    );
+    Ok(())
 }
 
 #[test]

@@ -1,5 +1,6 @@
 // Layouts at the edges of what is asked of them.
 
+use command_list::fault::Number;
 use layouts::info::{
     BindGroupInfo, GroupEntry, ImmediatesInfo, Owner, PipelineLayoutSpecialConstants,
 };
@@ -28,90 +29,106 @@ fn immediates(root_index: u32, size: u32) -> Option<ImmediatesInfo> {
     Some(ImmediatesInfo { root_index, size })
 }
 
-// The number of a layout's refusal, 0 if it is made.
-fn number(
+// Whether a layout is made, or why not.
+fn made(
     signature: u32,
     total: u32,
     special: Option<PipelineLayoutSpecialConstants>,
     immediates: Option<ImmediatesInfo>,
     groups: &[GroupEntry],
-) -> u8 {
+) -> Result<(), Number> {
     match PipelineLayout::new(signature, total, special, immediates, groups) {
-        Ok(_) => 0,
-        Err(fault) => fault.number.value(),
+        Ok(_) => Ok(()),
+        Err(fault) => Err(fault.number),
     }
 }
 
 #[test]
 fn totals(rt: HostRuntime) {
-    assert_eq!(rt; number(5, 0, None, None, &[]), 0);
-    assert_eq!(rt; number(5, 64, None, None, &[group(0, 0, true, 63)]), 0);
-    assert_eq!(rt; number(5, 65, None, None, &[group(0, 0, true, 64)]), 11);
-    assert_eq!(rt; number(0, 0, None, None, &[]), 1);
-    assert_eq!(rt; number(0, 65, None, None, &[]), 1);
+    assert_eq!(rt; made(5, 0, None, None, &[]), Ok(()));
+    assert_eq!(rt; made(5, 64, None, None, &[group(0, 0, true, 63)]), Ok(()));
+    assert_eq!(rt;
+        made(5, 65, None, None, &[group(0, 0, true, 64)]),
+        Err(Number::Slots)
+    );
+    assert_eq!(rt; made(0, 0, None, None, &[]), Err(Number::Range));
+    assert_eq!(rt; made(0, 65, None, None, &[]), Err(Number::Range));
 }
 
 #[test]
 fn groups(rt: HostRuntime) {
-    assert_eq!(rt; number(5, 1, None, None, &[group(7, 0, true, 0)]), 0);
-    assert_eq!(rt; number(5, 1, None, None, &[group(8, 0, true, 0)]), 1);
+    assert_eq!(rt; made(5, 1, None, None, &[group(7, 0, true, 0)]), Ok(()));
     assert_eq!(rt;
-        number(5, 0, None, None, &[group(0, 4_000_000_000, false, 0)]),
-        0
+        made(5, 1, None, None, &[group(8, 0, true, 0)]),
+        Err(Number::Range)
     );
     assert_eq!(rt;
-        number(
+        made(5, 0, None, None, &[group(0, 4_000_000_000, false, 0)]),
+        Ok(())
+    );
+    assert_eq!(rt;
+        made(
             5,
             1,
             None,
             None,
             &[group(0, 4_294_967_295, true, 4_294_967_295)],
         ),
-        11
+        Err(Number::Slots)
     );
-    assert_eq!(rt; number(5, 2, None, None, &[group(0, 0, true, 0)]), 12);
     assert_eq!(rt;
-        number(
+        made(5, 2, None, None, &[group(0, 0, true, 0)]),
+        Err(Number::Owners)
+    );
+    assert_eq!(rt;
+        made(
             5,
             1,
             None,
             None,
             &[group(0, 0, true, 0), group(1, 0, false, 1)],
         ),
-        12
+        Err(Number::Owners)
     );
     assert_eq!(rt;
-        number(
+        made(
             5,
             1,
             None,
             None,
             &[group(0, 9, true, 0), group(0, 0, true, 0)],
         ),
-        0
+        Ok(())
     );
 }
 
 #[test]
 fn single_slots(rt: HostRuntime) {
-    assert_eq!(rt; number(5, 2, special(0), immediates(1, 32), &[]), 0);
-    assert_eq!(rt; number(5, 2, special(2), immediates(1, 32), &[]), 11);
-    assert_eq!(rt; number(5, 1, None, immediates(0, 0), &[]), 11);
-    assert_eq!(rt; number(5, 1, None, immediates(0, 33), &[]), 11);
-    assert_eq!(rt; number(5, 1, special(0), immediates(0, 1), &[]), 12);
+    assert_eq!(rt; made(5, 2, special(0), immediates(1, 32), &[]), Ok(()));
+    assert_eq!(rt;
+        made(5, 2, special(2), immediates(1, 32), &[]),
+        Err(Number::Slots)
+    );
+    assert_eq!(rt; made(5, 1, None, immediates(0, 0), &[]), Err(Number::Slots));
+    assert_eq!(rt;
+        made(5, 1, None, immediates(0, 33), &[]),
+        Err(Number::Slots)
+    );
+    assert_eq!(rt;
+        made(5, 1, special(0), immediates(0, 1), &[]),
+        Err(Number::Owners)
+    );
 }
 
 #[test]
 fn owners(rt: HostRuntime) -> Result<(), Fail> {
-    let Ok(layout) = PipelineLayout::new(
+    let layout = PipelineLayout::new(
         5,
         6,
         special(5),
         immediates(0, 4),
         &[group(3, 1, true, 2), group(0, 4, false, 1)],
-    ) else {
-        return Err(Fail::new("refused"));
-    };
+    )?;
     let wanted = [
         Owner::Immediates,
         Owner::Table,

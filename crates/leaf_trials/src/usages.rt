@@ -5,58 +5,70 @@ use command_list::code::Code;
 use command_list::command::{Barrier, BarrierType};
 use command_list::fault::{Fault, Number};
 use device::recorder::Recorder;
-use resources::barrier::{BufferBarrier, StateTransition, TextureBarrier};
+use resources::barrier::{BufferBarrier, ResourceBarrier, StateTransition, Uses};
 use resources::batch::{barrier, transition};
 use resources::conv::{map_buffer_usage_to_state, map_texture_usage_to_state};
 use resources::scratch::{Mark, Scratch};
 use resources::uses::{BufferUses, TextureUses};
+use std::process::Abort;
 use std::test::Fail;
 
-fn buffer(resource: u32, from: u32, to: u32) -> BufferBarrier {
-    BufferBarrier {
+// A change from one usage to another.
+fn change<U>(resource: u32, from: U, to: U) -> ResourceBarrier<U> {
+    ResourceBarrier {
         resource,
-        usage: StateTransition {
-            from: BufferUses { bits: from },
-            to: BufferUses { bits: to },
-        },
+        usage: StateTransition { from, to },
     }
 }
 
-fn texture(resource: u32, from: u32, to: u32) -> TextureBarrier {
-    TextureBarrier {
-        resource,
-        usage: StateTransition {
-            from: TextureUses { bits: from },
-            to: TextureUses { bits: to },
-        },
+fn buffer(resource: u32, from: u32, to: u32) -> BufferBarrier {
+    change(resource, BufferUses { bits: from }, BufferUses { bits: to })
+}
+
+// Each usage comes to the state that stands for it in the table.
+fn states_are<S: Fn(u32) -> u32>(rt: &impl Abort, wanted: &[u32], state: S)
+    requires { S.IsAlwaysCallable state }
+{
+    for (bits, wanted) in (0..1024).zip(wanted) {
+        assert_eq!(rt; state(bits), *wanted);
     }
 }
 
 #[test]
 fn all_buffer_usages(rt: HostRuntime) {
-    for (bits, state) in (0u32..512).zip(BUFFER_STATES.iter()) {
-        assert_eq!(rt; map_buffer_usage_to_state(BufferUses { bits }), *state);
-    }
+    states_are(&rt, &BUFFER_STATES, |bits| {
+        map_buffer_usage_to_state(BufferUses { bits })
+    });
 }
 
 #[test]
 fn all_texture_usages(rt: HostRuntime) {
-    for (bits, state) in (0u32..1024).zip(TEXTURE_STATES.iter()) {
-        assert_eq!(rt; map_texture_usage_to_state(TextureUses { bits }), *state);
+    states_are(&rt, &TEXTURE_STATES, |bits| {
+        map_texture_usage_to_state(TextureUses { bits })
+    });
+}
+
+// Of the usages below an end, those that stay and make a barrier all the same are these.
+fn ordered_are<U: Uses + Copy, M: Fn(u32) -> U>(
+    rt: &impl Abort,
+    end: u32,
+    ordered: &[u32],
+    usage: M,
+)
+    requires { M.IsAlwaysCallable usage }
+{
+    for bits in 0..end {
+        let usage = usage(bits);
+        let made = barrier(&change(1, usage, usage)).is_some();
+        assert_eq!(rt; made, ordered.contains(&bits));
     }
 }
 
 // A usage that stays makes a barrier only where the Rust made one.
 #[test]
 fn usages_that_stay(rt: HostRuntime) {
-    for bits in 0u32..512 {
-        let made = barrier(&buffer(1, bits, bits)).is_some();
-        assert_eq!(rt; made, bits == 64 || bits == 256);
-    }
-    for bits in 0u32..1024 {
-        let made = barrier(&texture(1, bits, bits)).is_some();
-        assert_eq!(rt; made, bits == 512);
-    }
+    ordered_are(&rt, 512, &[64, 256], |bits| BufferUses { bits });
+    ordered_are(&rt, 1024, &[512], |bits| TextureUses { bits });
 }
 
 #[test]
@@ -86,24 +98,27 @@ const FREE: Barrier = Barrier {
     after: 0,
 };
 
-// What a call answers on a scratch of so many entries, and whether its fill and the host's entry stayed.
+// What a call answers on a scratch of so many entries, whose fill and whose host's entry stay.
 fn answered(
+    rt: &impl Abort,
     entries: &mut [Barrier],
     fill: usize,
     list: &[BufferBarrier],
     board: &mut Board,
-) -> (Result<(), Fault>, bool) {
+) -> Result<(), Fault> {
     let mut scratch = Scratch {
         entries,
         mark: Mark { fill },
     };
     let answer = transition(board, &mut scratch, list);
-    let kept = scratch.mark.fill == fill;
-    let host = match scratch.entries.first() {
-        Some(entry) => entry.resource == 99,
-        None => true,
-    };
-    (answer, kept && host)
+    assert_eq!(rt; scratch.mark.fill, fill);
+    assert!(rt;
+        scratch
+            .entries
+            .first()
+            .is_none_or(|entry| entry.resource == 99)
+    );
+    answer
 }
 
 #[test]
@@ -111,22 +126,23 @@ fn a_scratch_is_left_as_it_was(rt: HostRuntime) {
     let two = [buffer(1, 2, 8), buffer(2, 64, 64)];
     let mut board = Board::new(1000);
     let mut entries = [FREE; 3];
-    let (answer, kept) = answered(&mut entries, 1, &two, &mut board);
-    assert!(rt; answer == Ok(()) && kept);
+    assert_eq!(rt; answered(&rt, &mut entries, 1, &two, &mut board), Ok(()));
     assert_eq!(rt; board.count(Code::ResourceBarrier), 1);
     assert_eq!(rt; board.space(), 963);
-    let (answer, kept) = answered(&mut entries, 2, &two, &mut board);
-    assert!(rt; answer == Err(refusal(Number::Scratch, 0)) && kept);
+    assert_eq!(rt;
+        answered(&rt, &mut entries, 2, &two, &mut board),
+        Err(Number::Scratch.at(0))
+    );
     let mut small = Board::new(36);
-    let (answer, kept) = answered(&mut entries, 1, &two, &mut small);
-    assert!(rt; answer == Err(refusal(Number::Full, 0)) && kept);
+    assert_eq!(rt;
+        answered(&rt, &mut entries, 1, &two, &mut small),
+        Err(Number::Full.at(0))
+    );
     assert_eq!(rt; small.space(), 36);
-    let (answer, kept) = answered(&mut entries, 3, &[buffer(1, 65, 65)], &mut small);
-    assert!(rt; answer == Ok(()) && kept);
-}
-
-fn refusal(number: Number, place: usize) -> Fault {
-    Fault { number, place }
+    assert_eq!(rt;
+        answered(&rt, &mut entries, 3, &[buffer(1, 65, 65)], &mut small),
+        Ok(())
+    );
 }
 
 #[test]
@@ -134,22 +150,29 @@ fn usages_are_asked_before_resources(rt: HostRuntime) {
     let mut board = Board::new(1000);
     let mut entries = [FREE; 3];
     let list = [buffer(0, 2, 8), buffer(1, 2, 512)];
-    let (answer, kept) = answered(&mut entries, 1, &list, &mut board);
-    assert!(rt; answer == Err(refusal(Number::Range, 1)) && kept);
+    assert_eq!(rt;
+        answered(&rt, &mut entries, 1, &list, &mut board),
+        Err(Number::Range.at(1))
+    );
     let list = [buffer(1, 2, 8), buffer(0, 2, 511)];
-    let (answer, kept) = answered(&mut entries, 1, &list, &mut board);
-    assert!(rt; answer == Err(refusal(Number::Absent, 1)) && kept);
-    let (answer, kept) = answered(&mut entries, 1, &[], &mut board);
-    assert!(rt; answer == Ok(()) && kept);
+    assert_eq!(rt;
+        answered(&rt, &mut entries, 1, &list, &mut board),
+        Err(Number::Absent.at(1))
+    );
+    assert_eq!(rt; answered(&rt, &mut entries, 1, &[], &mut board), Ok(()));
 }
 
 #[test]
 fn a_scratch_of_at_most_2048(rt: HostRuntime) {
     let mut board = Board::new(1000);
     let mut entries = [FREE; 2049];
-    let (answer, kept) = answered(&mut entries, 0, &[], &mut board);
-    assert!(rt; answer == Err(refusal(Number::Scratch, 0)) && kept);
+    assert_eq!(rt;
+        answered(&rt, &mut entries, 0, &[], &mut board),
+        Err(Number::Scratch.at(0))
+    );
     let mut entries = [FREE; 2048];
-    let (answer, kept) = answered(&mut entries, 2047, &[buffer(1, 2, 8)], &mut board);
-    assert!(rt; answer == Ok(()) && kept);
+    assert_eq!(rt;
+        answered(&rt, &mut entries, 2047, &[buffer(1, 2, 8)], &mut board),
+        Ok(())
+    );
 }

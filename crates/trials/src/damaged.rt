@@ -2,14 +2,10 @@
 use crate::plain;
 use list_file::{check as records, rewrite, write};
 use std::process::Abort;
-use std::test::Fail;
 
-// What the reader says of a file.
+// What the reader says of a file: a refusal by its number, as hosts see it.
 fn said(file: &[u8]) -> Result<usize, (u8, usize)> {
-    match records(file) {
-        Ok(count) => Ok(count),
-        Err(fault) => Err((fault.number.value(), fault.place)),
-    }
+    records(file).map_err(|fault| (u8::from(fault.number), fault.place))
 }
 
 fn refused(rt: &impl Abort, file: &[u8], number: u8, place: usize) {
@@ -86,7 +82,7 @@ fn kinds_types_and_special_slots(rt: HostRuntime) {
 }
 
 #[test]
-fn nine_targets(rt: HostRuntime) -> Result<(), Fail> {
+fn nine_targets(rt: HostRuntime) {
     let mut nine = [0u8; 77];
     nine[0] = 1;
     nine[2] = 74;
@@ -95,89 +91,51 @@ fn nine_targets(rt: HostRuntime) -> Result<(), Fail> {
     refused(&rt, &nine, 25, 1);
     nine[2] = 66;
     nine[4] = 8;
-    match nine.get(0..69) {
-        Some(eight) => {
-            assert_eq!(rt; said(eight), Ok(1));
-            Ok(())
-        },
-        None => Err(Fail::new("too short")),
-    }
+    assert_eq!(rt; said(&nine[0..69]), Ok(1));
 }
 
 // The season plot as a list.
-fn plot(rt: &impl Abort, bytes: &mut [u8; 262]) -> Result<(), Fail> {
-    match write(&season_plot::commands(), bytes) {
-        Ok(end) => {
-            assert_eq!(rt; end, 262);
-            Ok(())
-        },
-        Err(_) => Err(Fail::new("the plot is refused")),
-    }
+fn plot(rt: &impl Abort) -> [u8; 262] {
+    let mut bytes = [0u8; 262];
+    assert_eq!(rt; write(&season_plot::commands(), &mut bytes), Ok(262));
+    bytes
 }
 
 #[test]
-fn cut_at_every_length(rt: HostRuntime) -> Result<(), Fail> {
-    let mut bytes = [0u8; 262];
-    plot(&rt, &mut bytes)?;
+fn cut_at_every_length(rt: HostRuntime) {
+    let bytes = plot(&rt);
     let mut whole = 0;
-    for n in 0..263 {
-        if let Some(part) = bytes.get(0..n) {
-            assert_eq!(rt; said(part), plain::read(part));
-            if said(part).is_ok() {
-                whole = n.max(whole);
-            }
+    for n in 0..=bytes.len() {
+        let part = &bytes[0..n];
+        assert_eq!(rt; said(part), plain::read(part));
+        if said(part).is_ok() {
+            whole = n;
         }
     }
     assert_eq!(rt; whole, 262);
-    Ok(())
 }
 
-// Each value of one byte.
-fn each_value(rt: &impl Abort, bytes: &mut [u8], at: usize) -> Result<(), Fail> {
-    if at >= bytes.len() {
-        return Ok(());
-    }
-    let was = bytes[at];
-    for b in 0..=255u8 {
-        bytes[at] = b;
-        assert_eq!(rt; said(bytes), plain::read(bytes));
-    }
-    bytes[at] = was;
-    Ok(())
-}
-
-fn each_offset(rt: &impl Abort, bytes: &mut [u8]) -> Result<(), Fail> {
+#[test]
+fn one_byte_changed_at_every_offset(rt: HostRuntime) {
+    let bytes = plot(&rt);
     for at in 0..bytes.len() {
-        each_value(rt, bytes, at)?;
+        for b in 0..=255u8 {
+            let mut changed = bytes;
+            changed[at] = b;
+            assert_eq!(rt; said(&changed), plain::read(&changed));
+        }
     }
-    Ok(())
 }
 
 #[test]
-fn one_byte_changed_at_every_offset(rt: HostRuntime) -> Result<(), Fail> {
-    let mut bytes = [0u8; 262];
-    plot(&rt, &mut bytes)?;
-    each_offset(&rt, &mut bytes)
-}
-
-#[test]
-fn rewritten_to_its_own_bytes(rt: HostRuntime) -> Result<(), Fail> {
-    let mut bytes = [0u8; 262];
-    plot(&rt, &mut bytes)?;
+fn rewritten_to_its_own_bytes(rt: HostRuntime) {
+    let bytes = plot(&rt);
     let mut again = [7u8; 263];
-    match rewrite(&bytes, &mut again) {
-        Ok(size) => assert_eq!(rt; size, 262),
-        Err(_) => return Err(Fail::new("refused")),
-    }
+    assert_eq!(rt; rewrite(&bytes, &mut again), Ok(262));
     assert!(rt; again.get(0..262) == Some(&bytes[0..262]));
     assert_eq!(rt; again[262], 7);
     let mut short = [7u8; 261];
-    match rewrite(&bytes, &mut short) {
-        Ok(_) => Err(Fail::new("taken")),
-        Err(fault) => {
-            assert_eq!(rt; fault.number.value(), 10);
-            assert_eq!(rt; short[0], 7);
-            Ok(())
-        }
-    }
+    let fault = rewrite(&bytes, &mut short).map_err(|fault| u8::from(fault.number));
+    assert_eq!(rt; fault, Err(10));
+    assert_eq!(rt; short[0], 7);
 }

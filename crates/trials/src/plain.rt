@@ -1,10 +1,9 @@
 // A second reading of the format, written on its own for the tests: it only counts and refuses.
+// It says refusals by the numbers of docs/REFUSALS.md, so that it has no type of the first reading.
+ghost use Rattle.std.specs.Prelude.{◌+◌, ◌<◌, ◌≤◌, length, IfOk};
 
 fn byte(file: &[u8], i: usize) -> usize {
-    match file.get(i) {
-        Some(b) => *b as usize,
-        None => 0,
-    }
+    file.get(i).map_or(0, |b| *b as usize)
 }
 
 // Whether operands of `n` bytes are as long as a code asks; none where the code is not known.
@@ -28,13 +27,10 @@ fn long_enough(code: usize, n: usize, first: usize) -> Option<bool> {
 }
 
 fn types_known(file: &[u8], at: usize, n: usize) -> bool {
-    for i in 0..n / 17 {
+    (0..n / 17).all(|i| {
         let kind = byte(file, at.saturating_add(i.saturating_mul(17)));
-        if kind != 0 && kind != 2 {
-            return false;
-        }
-    }
-    true
+        kind == 0 || kind == 2
+    })
 }
 
 fn in_range(code: usize, file: &[u8], at: usize, n: usize) -> bool {
@@ -55,7 +51,9 @@ fn in_range(code: usize, file: &[u8], at: usize, n: usize) -> bool {
 }
 
 // The bytes of the record at a place, or the number of its refusal.
-fn record(file: &[u8], at: usize) -> Result<usize, u8> {
+fn record(file: &[u8], at: usize) -> Result<usize, u8>
+    ensures { IfOk result (λ size. (0 < size) × (at + size ≤ length file.now)) }
+{
     let left = file.len().saturating_sub(at);
     let said = byte(file, at)
         .saturating_mul(256)
@@ -65,17 +63,13 @@ fn record(file: &[u8], at: usize) -> Result<usize, u8> {
     }
     let code = byte(file, at.saturating_add(2));
     let operands = at.saturating_add(3);
-    match long_enough(code, said - 1, byte(file, operands)) {
-        None => Err(23),
-        Some(false) => Err(24),
-        Some(true) => {
-            if in_range(code, file, operands, said - 1) {
-                Ok(said.saturating_add(2))
-            } else {
-                Err(25)
-            }
-        }
+    if !long_enough(code, said - 1, byte(file, operands)).ok_or(23u8)? {
+        return Err(24);
     }
+    if !in_range(code, file, operands, said - 1) {
+        return Err(25);
+    }
+    Ok(said + 2)
 }
 
 // How many records a file has, or the number and the place of its first refusal.
@@ -84,14 +78,10 @@ pub(crate) fn read(file: &[u8]) -> Result<usize, (u8, usize)> {
         return Err((21, 0));
     }
     let mut at: usize = 1;
-    for count in 0..65536 {
-        if at >= file.len() {
-            return Ok(count);
-        }
-        match record(file, at) {
-            Ok(size) => at = at.saturating_add(size),
-            Err(number) => return Err((number, at)),
-        }
+    let mut count = 0;
+    while at < file.len() {
+        at += record(file, at).map_err(|number| (number, at))?;
+        count += 1;
     }
-    Ok(65536)
+    Ok(count)
 }

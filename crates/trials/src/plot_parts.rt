@@ -5,9 +5,7 @@ use std::test::Fail;
 
 #[test]
 fn the_layout_has_three_slots(rt: HostRuntime) -> Result<(), Fail> {
-    let Ok(layout) = season_plot::layout() else {
-        return Err(Fail::new("refused"));
-    };
+    let layout = season_plot::layout()?;
     assert_eq!(rt; layout.signature(), 5);
     assert_eq!(rt; layout.total(), 3);
     assert!(rt; layout.owner(0) == Some(Owner::Table));
@@ -19,9 +17,7 @@ fn the_layout_has_three_slots(rt: HostRuntime) -> Result<(), Fail> {
 
 #[test]
 fn the_label_is_a_letter_and_a_zero(rt: HostRuntime) -> Result<(), Fail> {
-    let Ok(label) = season_plot::label() else {
-        return Err(Fail::new("refused"));
-    };
+    let label = season_plot::label()?;
     assert!(rt; label.units() == [0xE9, 0].as_slice());
     Ok(())
 }

@@ -17,16 +17,16 @@ fn pairs_taken<R: Recorder>(recorder: &mut R) -> (bool, bool) {
 }
 
 // The same at a ration over a recorder, which is given back.
-fn rationed<R: Recorder>(below: R, most: usize, taken: &mut (bool, bool)) -> R {
+fn rationed<R: Recorder>(below: R, most: usize) -> (R, (bool, bool)) {
     let mut ration = Ration::new(below, most);
-    *taken = pairs_taken(&mut ration);
-    ration.into_below()
+    let taken = pairs_taken(&mut ration);
+    (ration.into_below(), taken)
 }
 
 // The same at a ration over a ration over a recorder.
-fn rationed_twice<R: Recorder>(below: R, most: usize, taken: &mut (bool, bool)) -> R {
-    let ration = Ration::new(below, 1000);
-    rationed(ration, most, taken).into_below()
+fn rationed_twice<R: Recorder>(below: R, most: usize) -> (R, (bool, bool)) {
+    let (ration, taken) = rationed(Ration::new(below, 1000), most);
+    (ration.into_below(), taken)
 }
 
 #[test]
@@ -52,18 +52,17 @@ fn a_pair_is_taken_whole_into_list_bytes(rt: HostRuntime) {
 
 #[test]
 fn a_ration_is_kept_over_each_recorder(rt: HostRuntime) {
-    let mut taken = (false, false);
-    let board = rationed(Board::new(100), 14, &mut taken);
+    let (board, taken) = rationed(Board::new(100), 14);
     assert!(rt; taken == (true, false));
     assert_eq!(rt; board.space(), 86);
     let mut bytes = [0u8; 100];
-    let list = rationed(ListBytes::new(&mut bytes), 27, &mut taken);
+    let (list, taken) = rationed(ListBytes::new(&mut bytes), 27);
     assert!(rt; taken == (true, false));
     assert_eq!(rt; list.list().len(), 15);
-    let board = rationed_twice(Board::new(100), 27, &mut taken);
+    let (board, taken) = rationed_twice(Board::new(100), 27);
     assert!(rt; taken == (true, false));
     assert_eq!(rt; board.pipeline(), 9);
-    let board = rationed_twice(board, 28, &mut taken);
+    let (board, taken) = rationed_twice(board, 28);
     assert!(rt; taken == (true, true));
     assert_eq!(rt; board.pipeline(), 10);
 }
@@ -82,11 +81,6 @@ fn a_list_is_played_whole_or_not_at_all(rt: HostRuntime) -> Result<(), Fail> {
     let mut list = ListBytes::new(&mut bytes);
     assert!(rt; play(&mut list, &LIST).is_ok());
     assert!(rt; list.list() == LIST.as_slice());
-    match board_of(&LIST) {
-        Ok(board) => {
-            assert_eq!(rt; board.pipeline(), 9);
-            Ok(())
-        },
-        Err(_) => Err(Fail::new("refused")),
-    }
+    assert_eq!(rt; board_of(&LIST)?.pipeline(), 9);
+    Ok(())
 }

@@ -1,132 +1,124 @@
 // Single facts: the state of a usage, the record of a label, the owners of a layout's slots.
 use crate::failure::{Failure, refusal};
+use command_list::command::Command;
 use command_list::fault::{Fault, Number};
-use device::recorder::Recorder;
 use labels::label::Label;
 use layouts::info::Owner;
 use layouts::layout::PipelineLayout;
-use list_bytes::ListBytes;
+use list_writer::writer::Recordable;
 use resources::barrier::Uses;
 use resources::uses::{BufferUses, TextureUses};
 
-const BUFFER_FLAGS: [&str; 9] = [
-    "COPY_SRC",
-    "COPY_DST",
-    "INDEX",
-    "VERTEX",
-    "UNIFORM",
-    "STORAGE_READ_ONLY",
-    "STORAGE_READ_WRITE",
-    "INDIRECT",
-    "ACCELERATION_STRUCTURE_QUERY",
+// A flag with its name.
+type Flag = (u32, &'static str);
+
+const BUFFER_FLAGS: [Flag; 9] = [
+    (BufferUses::COPY_SRC, "COPY_SRC"),
+    (BufferUses::COPY_DST, "COPY_DST"),
+    (BufferUses::INDEX, "INDEX"),
+    (BufferUses::VERTEX, "VERTEX"),
+    (BufferUses::UNIFORM, "UNIFORM"),
+    (BufferUses::STORAGE_READ_ONLY, "STORAGE_READ_ONLY"),
+    (BufferUses::STORAGE_READ_WRITE, "STORAGE_READ_WRITE"),
+    (BufferUses::INDIRECT, "INDIRECT"),
+    (
+        BufferUses::ACCELERATION_STRUCTURE_QUERY,
+        "ACCELERATION_STRUCTURE_QUERY",
+    ),
 ];
 
-const TEXTURE_FLAGS: [&str; 10] = [
-    "UNINITIALIZED",
-    "COPY_SRC",
-    "COPY_DST",
-    "RESOURCE",
-    "COLOR_TARGET",
-    "DEPTH_STENCIL_READ",
-    "DEPTH_STENCIL_WRITE",
-    "STORAGE_READ_ONLY",
-    "STORAGE_WRITE_ONLY",
-    "STORAGE_READ_WRITE",
+const TEXTURE_FLAGS: [Flag; 10] = [
+    (TextureUses::UNINITIALIZED, "UNINITIALIZED"),
+    (TextureUses::COPY_SRC, "COPY_SRC"),
+    (TextureUses::COPY_DST, "COPY_DST"),
+    (TextureUses::RESOURCE, "RESOURCE"),
+    (TextureUses::COLOR_TARGET, "COLOR_TARGET"),
+    (TextureUses::DEPTH_STENCIL_READ, "DEPTH_STENCIL_READ"),
+    (TextureUses::DEPTH_STENCIL_WRITE, "DEPTH_STENCIL_WRITE"),
+    (TextureUses::STORAGE_READ_ONLY, "STORAGE_READ_ONLY"),
+    (TextureUses::STORAGE_WRITE_ONLY, "STORAGE_WRITE_ONLY"),
+    (TextureUses::STORAGE_READ_WRITE, "STORAGE_READ_WRITE"),
 ];
 
-// Microsoft's names, by the place of their bit.
-const STATES: [&str; 12] = [
-    "VERTEX_AND_CONSTANT_BUFFER",
-    "INDEX_BUFFER",
-    "RENDER_TARGET",
-    "UNORDERED_ACCESS",
-    "DEPTH_WRITE",
-    "DEPTH_READ",
-    "NON_PIXEL_SHADER_RESOURCE",
-    "PIXEL_SHADER_RESOURCE",
-    "STREAM_OUT",
-    "INDIRECT_ARGUMENT",
-    "COPY_DEST",
-    "COPY_SOURCE",
+// Microsoft's values and names, all of them: `resources` has those that it maps to.
+const STATES: [Flag; 12] = [
+    (0x1, "VERTEX_AND_CONSTANT_BUFFER"),
+    (0x2, "INDEX_BUFFER"),
+    (0x4, "RENDER_TARGET"),
+    (0x8, "UNORDERED_ACCESS"),
+    (0x10, "DEPTH_WRITE"),
+    (0x20, "DEPTH_READ"),
+    (0x40, "NON_PIXEL_SHADER_RESOURCE"),
+    (0x80, "PIXEL_SHADER_RESOURCE"),
+    (0x100, "STREAM_OUT"),
+    (0x200, "INDIRECT_ARGUMENT"),
+    (0x400, "COPY_DEST"),
+    (0x800, "COPY_SOURCE"),
 ];
 
-// The names of the bits of a number, lowest first, or what it is with none.
-fn print_names(rt: &impl Print, number: u32, names: &[&str], none: &str) -> Result<(), Failure> {
+// The names of a number's flags, lowest first, or what it is with none.
+fn print_names(rt: &impl Print, number: u32, flags: &[Flag], none: &str) -> Result<(), Failure> {
     if number == 0 {
         print!(rt; " {none}")?;
     }
-    let mut left = number;
-    for name in names {
-        if left % 2 == 1 {
-            let name: &str = *name;
-            print!(rt; " {name}")?;
-        }
-        left /= 2;
+    for (_, name) in flags.iter().filter(|(flag, _)| number & *flag != 0) {
+        print!(rt; " {name}")?;
     }
     println!(rt; "")?;
     Ok(())
 }
 
 // A usage whose flags are known, and the state that it comes to.
-fn print_usage<U: Uses>(
+fn print_usage<U: Uses + Drop>(
     rt: &(impl Print + AllocGlobal),
     usage: U,
     bits: u32,
-    names: &[&str],
-) -> Result<(), Failure>
-where
-    U: Drop,
-{
+    flags: &[Flag],
+) -> Result<(), Failure> {
     if !usage.is_known() {
-        let fault = Fault {
-            number: Number::Range,
-            place: 0,
-        };
-        return Err(refusal(rt, "the usage", fault));
+        return Err(refusal(rt.alloc(), "the usage", Number::Range.at(0)));
     }
     print!(rt; "usage {bits}:")?;
-    print_names(rt, bits, names, "no flag")?;
+    print_names(rt, bits, flags, "no flag")?;
     let state = usage.state();
     print!(rt; "state {state:#x}:")?;
     print_names(rt, state, &STATES, "COMMON")
 }
 
-// The state of a usage.
-pub(crate) fn print_state(
+// The state of a buffer's usage.
+pub(crate) fn print_buffer(
     rt: &(impl Print + AllocGlobal),
-    kind: &str,
-    usage: &str,
+    usage: BufferUses,
 ) -> Result<(), Failure> {
-    let Ok(bits) = usage.parse::<u32>() else {
-        return Err(Failure::Said("a usage is a whole number"));
-    };
-    match kind {
-        "buffer" => print_usage(rt, BufferUses { bits }, bits, &BUFFER_FLAGS),
-        "texture" => print_usage(rt, TextureUses { bits }, bits, &TEXTURE_FLAGS),
-        _ => Err(Failure::Said("the state of what? give 'buffer' or 'texture' and a usage")),
-    }
+    print_usage(rt, usage, usage.bits, &BUFFER_FLAGS)
 }
 
-// A label's event as list bytes; how many bytes they are.
-fn label_list(label: &str, bytes: &mut [u8]) -> Result<usize, Fault> {
+// The state of a texture's usage.
+pub(crate) fn print_texture(
+    rt: &(impl Print + AllocGlobal),
+    usage: TextureUses,
+) -> Result<(), Failure> {
+    print_usage(rt, usage, usage.bits, &TEXTURE_FLAGS)
+}
+
+// A label's record at the start of some bytes; how many bytes it takes.
+fn label_record(label: &str, bytes: &mut [u8]) -> Result<usize, Fault> {
     let label = Label::new(label.as_bytes())?;
-    let mut list = ListBytes::new(bytes);
-    list.begin_event(label.units())?;
-    Ok(list.list().len())
+    Command::BeginEvent(label.units()).append_to(bytes, 0)
 }
 
 // The record of a label.
 pub(crate) fn print_label(rt: &(impl Print + AllocGlobal), label: &str) -> Result<(), Failure> {
     let mut bytes = [0u8; 1024];
-    let end = match label_list(label, &mut bytes) {
-        Ok(end) => end,
-        Err(fault) => return Err(refusal(rt, "the label", fault)),
-    };
-    for (i, byte) in bytes.iter().enumerate().take(end).skip(1) {
-        if i > 1 {
+    let size = label_record(label, &mut bytes).map_err(|fault| refusal(
+        rt.alloc(),
+        "the label",
+        fault,
+    ))?;
+    for (i, byte) in bytes.iter().take(size).enumerate() {
+        if i > 0 {
             print!(rt; " ")?;
         }
-        let byte = *byte;
         print!(rt; "{byte:02X}")?;
     }
     println!(rt; "")?;

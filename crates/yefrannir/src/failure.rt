@@ -1,13 +1,22 @@
 // Why the program ends with status 1, told in one line.
-use crate::show::Told;
 use command_list::fault::Fault;
-use std::alloc::AllocError;
+use std::alloc::{AllocError, Global};
 use std::{fmt, io};
 
 #[derive(Debug, Drop)]
 pub(crate) enum Failure {
-    Said(&'static str),
-    Told(String),
+    BadArguments,
+    NothingToShow,
+    NothingToPlay,
+    NoResource,
+    NoNumber,
+    NoLabel,
+    OtherBytes,
+    OtherState,
+    // What is refused, and why.
+    Refused(String, Fault),
+    // A file that cannot be read, and why.
+    Unread(String, io::Error),
     Memory(AllocError),
     Io(io::Error),
 }
@@ -15,31 +24,42 @@ pub(crate) enum Failure {
 impl fmt::Display for Failure {
     fn fmt<W: fmt::Write>(&self, f: &mut fmt::Formatter<W>) -> fmt::Result {
         match self {
-            Failure::Said(text) => write!(f, "{text}"),
-            Failure::Told(text) => write!(f, "{text}"),
-            Failure::Memory(e) => write!(f, "{e}"),
-            Failure::Io(e) => write!(f, "{e}"),
+            Failure::BadArguments => {
+                f.write_str("bad arguments: 'yefrannir help' says what there is")
+            }
+            Failure::NothingToShow => f.write_str("show what? give a list file, or --time"),
+            Failure::NothingToPlay => f.write_str("play what? give a list file"),
+            Failure::NoResource => {
+                f.write_str("the state of what? give 'buffer' or 'texture' and a usage")
+            }
+            Failure::NoNumber => f.write_str("a usage is a whole number"),
+            Failure::NoLabel => f.write_str("which label? give a text"),
+            Failure::OtherBytes => f.write_str("the rewritten plot has other bytes"),
+            Failure::OtherState => f.write_str("the board's state and the list's differ"),
+            Failure::Refused(what, fault) => write!(f, "{what} is refused: {fault}"),
+            Failure::Unread(path, error) => write!(f, "cannot read {path}: {error}"),
+            Failure::Memory(error) => write!(f, "{error}"),
+            Failure::Io(error) => write!(f, "{error}"),
         }
     }
 }
 
 impl From<AllocError> for Failure {
-    fn from(e: AllocError) -> Failure {
-        Failure::Memory(e)
+    fn from(error: AllocError) -> Failure {
+        Failure::Memory(error)
     }
 }
 
 impl From<io::Error> for Failure {
-    fn from(e: io::Error) -> Failure {
-        Failure::Io(e)
+    fn from(error: io::Error) -> Failure {
+        Failure::Io(error)
     }
 }
 
 // A refusal, with what is refused.
-pub(crate) fn refusal(rt: &impl AllocGlobal, what: &str, fault: Fault) -> Failure {
-    let told = Told(fault);
-    match format!(in rt.alloc(); "{what} is refused: {told}") {
-        Ok(text) => Failure::Told(text),
-        Err(e) => Failure::Memory(e),
+pub(crate) fn refusal(alloc: Global, what: &str, fault: Fault) -> Failure {
+    match String::from_str(alloc, what) {
+        Ok(what) => Failure::Refused(what, fault),
+        Err(error) => Failure::Memory(error),
     }
 }

@@ -3,23 +3,24 @@
 
 mod facts;
 mod failure;
+mod named;
 mod show;
 mod shown;
 mod timing;
 
 use board::board::Board;
-use command_list::code::Code;
-use command_list::command::Command;
 use command_list::fault::Fault;
-use command_list::reader::{MOST_BYTES, Reader};
 use command_list::record::Record;
 use device::ration::Ration;
 use device::recorder::Recorder;
-use facts::{print_label, print_layout, print_state};
+use facts::{print_buffer, print_label, print_layout, print_texture};
 use failure::{Failure, refusal};
 use list_bytes::{ListBytes, measured};
 use list_file::{check, records_are_known, rewrite, write};
 use list_play::board_of;
+use list_writer::writer::Recordable;
+use named::{Named, each_record};
+use resources::uses::{BufferUses, TextureUses};
 use show::Operands;
 use shown::{print_play, same};
 use std::process::ExitCode;
@@ -48,73 +49,40 @@ A list that is refused is told with a number and a place: docs/REFUSALS.md has t
 // The bytes that the plot may take.
 const ALLOWANCE: usize = 1000;
 
-// The name of a record by the byte of its code.
-fn record_name(byte: u8) -> &'static str {
-    match Code::named(byte) {
-        Some(code) => show::name(code),
-        None => "unknown",
-    }
-}
-
 // A record on a line.
-fn print_record(rt: &impl Print, at: usize, byte: u8, record: Record) -> Result<(), Failure> {
-    let name = record_name(byte);
+fn print_record(rt: &impl Print, at: usize, record: Record) -> Result<(), Failure> {
+    let code = record.code();
+    let byte = u8::from(code);
     let operands = Operands(record);
-    println!(rt; "{at:>6} {byte:>3} {name}{operands}")?;
+    println!(rt; "{at:>6} {byte:>3} {code:?}{operands}")?;
     Ok(())
 }
 
 // The records of a file, up to the first that is refused.
-fn print_list(rt: &(impl Print + AllocGlobal), what: &str, file: &[u8]) -> Result<(), Failure> {
-    let mut reader = match Reader::open(file) {
-        Ok(reader) => reader,
-        Err(fault) => return Err(refusal(rt, what, fault)),
-    };
-    for _ in 0..MOST_BYTES {
-        let at = reader.place();
-        match reader.next() {
-            Ok(None) => return Ok(()),
-            Ok(Some(record)) => {
-                let byte = file.get(at.saturating_add(2)).copied().unwrap_or(0);
-                print_record(rt, at, byte, record)?;
-            }
-            Err(fault) => return Err(refusal(rt, what, fault)),
-        }
-    }
-    Ok(())
+fn print_list(rt: &(impl Print + AllocGlobal), file: Named) -> Result<(), Failure> {
+    each_record(rt.alloc(), file, |at, record| print_record(rt, at, record))
 }
 
 // Gives the plot's commands to a recorder.
 fn record_plot<R: Recorder>(recorder: &mut R) -> Result<(), Fault> {
     for command in season_plot::commands() {
-        match command {
-            Command::BeginEvent(label) => recorder.begin_event(label)?,
-            Command::OMSetRenderTargets(targets) => recorder.om_set_render_targets(targets)?,
-            Command::ResourceBarrier(barriers) => recorder.resource_barrier(barriers)?,
-            Command::Fixed(fixed) => recorder.record(fixed)?,
-        }
+        recorder.record(command)?;
     }
     Ok(())
 }
 
 // Gives the plot to a recorder under an allowance, and the recorder back.
-fn ration_plot<R: Recorder>(below: R, refused: &mut Option<Fault>) -> R {
+fn ration_plot<R: Recorder + Drop>(below: R) -> Result<R, Fault> {
     let mut ration = Ration::new(below, ALLOWANCE);
-    if let Err(fault) = record_plot(&mut ration) {
-        *refused = Some(fault);
-    }
-    ration.into_below()
+    record_plot(&mut ration)?;
+    Ok(ration.into_below())
 }
 
-// The plot as list bytes; how many bytes they are.
-fn plot_list(bytes: &mut [u8]) -> Result<usize, Fault> {
-    let mut refused = None;
-    let list = ration_plot(ListBytes::new(measured(bytes)?), &mut refused);
-    let end = list.list().len();
-    match refused {
-        None => Ok(end),
-        Some(fault) => Err(fault),
-    }
+// The plot as list bytes.
+fn plot_list(bytes: &mut [u8]) -> Result<&[u8], Fault> {
+    let list = ration_plot(ListBytes::new(measured(bytes)?))?;
+    let (end, bytes) = list.finish();
+    Ok(&bytes[0..end])
 }
 
 // Whether the plot, written in one call, and its list, rewritten, have the list's bytes.
@@ -134,60 +102,64 @@ fn boards_agree(list: &[u8]) -> Result<bool, Fault> {
 }
 
 // The plot's list: printed, rewritten, and played on a board.
-fn show_plot(rt: &(impl Print + AllocGlobal), list: &[u8]) -> Result<(), Failure> {
-    print_list(rt, "the plot", list)?;
+fn show_plot(rt: &(impl Print + AllocGlobal), plot: Named) -> Result<(), Failure> {
+    let Named { list, .. } = plot;
+    let refusal = |fault| plot.refusal(rt.alloc(), fault);
+    print_list(rt, plot)?;
+    let count = check(list).map_err(refusal)?;
+    if !bytes_agree(list).map_err(refusal)? {
+        return Err(Failure::OtherBytes);
+    }
     let end = list.len();
-    let count = match check(list) {
-        Ok(count) => count,
-        Err(fault) => return Err(refusal(rt, "the plot", fault)),
-    };
-    match bytes_agree(list) {
-        Ok(true) => {}
-        Ok(false) => return Err(Failure::Said("the rewritten plot has other bytes")),
-        Err(fault) => return Err(refusal(rt, "the plot", fault)),
-    }
     println!(rt; "{count} records in {end} bytes; rewritten, the bytes are equal")?;
-    match boards_agree(list) {
-        Ok(true) => {
-            println!(rt; "played on a board, its state and the list's agree")?;
-            Ok(())
-        }
-        Ok(false) => Err(Failure::Said("the board's state and the list's differ")),
-        Err(fault) => Err(refusal(rt, "the plot", fault)),
+    if !boards_agree(list).map_err(refusal)? {
+        return Err(Failure::OtherState);
     }
+    println!(rt; "played on a board, its state and the list's agree")?;
+    Ok(())
 }
 
 // The plot's layout.
 fn show_layout(rt: &(impl Print + AllocGlobal)) -> Result<(), Failure> {
-    match season_plot::layout() {
-        Ok(layout) => print_layout(rt, &layout),
-        Err(fault) => Err(refusal(rt, "the plot's layout", fault)),
-    }
+    let layout = season_plot::layout().map_err(|fault| refusal(
+        rt.alloc(),
+        "the plot's layout",
+        fault,
+    ))?;
+    print_layout(rt, &layout)
 }
 
 // The embedded plot.
 fn run_plot(rt: &(impl Print + AllocGlobal)) -> Result<(), Failure> {
     records_are_known();
+    let name = "the plot";
     let mut bytes = [0u8; 1024];
-    let end = match plot_list(&mut bytes) {
-        Ok(end) => end,
-        Err(fault) => return Err(refusal(rt, "the plot", fault)),
-    };
-    match bytes.get(0..end) {
-        Some(list) => show_plot(rt, list),
-        None => Err(Failure::Said("the plot passes its bytes")),
-    }
+    let list = plot_list(&mut bytes).map_err(|fault| refusal(rt.alloc(), name, fault))?;
+    show_plot(rt, Named { name, list })
 }
 
-// The bytes of a file, or an error that names it.
+// The bytes of a file.
 fn read_file(rt: &(impl Files + AllocGlobal), path: &str) -> Result<Vec<u8>, Failure> {
     match fs::read(rt, path) {
         Ok(bytes) => Ok(bytes),
-        Err(e) => {
-            let text = format!(in rt.alloc(); "cannot read {path}: {e}")?;
-            Err(Failure::Told(text))
+        Err(error) => {
+            let path = String::from_str(rt.alloc(), path)?;
+            Err(Failure::Unread(path, error))
         }
     }
+}
+
+// Reads a list file, and shows it under its path.
+fn with_file<F: FnOnce(Named) -> Result<(), Failure>>(
+    rt: &(impl Files + AllocGlobal),
+    path: &str,
+    show: F,
+) -> Result<(), Failure>
+    requires { F.IsAlwaysCallable show }
+{
+    let bytes = read_file(rt, path)?;
+    let list = bytes.as_slice();
+    show(Named { name: path, list })
 }
 
 // What the arguments ask for.
@@ -197,59 +169,50 @@ enum Asked {
     Help,
     Show(String),
     Play(String),
-    State(String, String),
+    Buffer(BufferUses),
+    Texture(TextureUses),
     Label(String),
     Layout,
     TimeFile(String),
     TimeSample,
 }
 
-const USAGE: &str = "bad arguments: 'yefrannir help' says what there is";
+// A kind of resource, and a usage of it.
+fn asked_state(kind: &str, usage: &str) -> Result<Asked, Failure> {
+    let Ok(bits) = usage.parse::<u32>() else {
+        return Err(Failure::NoNumber);
+    };
+    match kind {
+        "buffer" => Ok(Asked::Buffer(BufferUses { bits })),
+        "texture" => Ok(Asked::Texture(TextureUses { bits })),
+        _ => Err(Failure::NoResource),
+    }
+}
 
 // `show` and what follows it.
-fn asked_show(first: Option<String>, second: Option<String>) -> Result<Asked, Failure> {
-    match (first, second) {
-        (Some(path), None) => {
-            if path.as_str() == "--time" {
-                Ok(Asked::TimeSample)
-            } else {
-                Ok(Asked::Show(path))
-            }
-        }
-        (Some(path), Some(flag)) => {
-            if flag.as_str() == "--time" {
-                Ok(Asked::TimeFile(path))
-            } else {
-                Err(Failure::Said(USAGE))
-            }
-        }
-        (None, _) => Err(Failure::Said("show what? give a list file, or --time")),
+fn asked_show(path: String, flag: Option<String>) -> Result<Asked, Failure> {
+    match flag {
+        None if path.as_str() == "--time" => Ok(Asked::TimeSample),
+        None => Ok(Asked::Show(path)),
+        Some(flag) if flag.as_str() == "--time" => Ok(Asked::TimeFile(path)),
+        Some(_) => Err(Failure::BadArguments),
     }
 }
 
-// `play` and what follows it.
-fn asked_play(first: Option<String>, second: Option<String>) -> Result<Asked, Failure> {
-    match (first, second) {
-        (Some(path), None) => Ok(Asked::Play(path)),
-        (None, _) => Err(Failure::Said("play what? give a list file")),
-        _ => Err(Failure::Said(USAGE)),
-    }
-}
-
-// `state` and what follows it.
-fn asked_state(first: Option<String>, second: Option<String>) -> Result<Asked, Failure> {
-    match (first, second) {
-        (Some(kind), Some(usage)) => Ok(Asked::State(kind, usage)),
-        _ => Err(Failure::Said("the state of what? give 'buffer' or 'texture' and a usage")),
-    }
-}
-
-// `label` and what follows it.
-fn asked_label(first: Option<String>, second: Option<String>) -> Result<Asked, Failure> {
-    match (first, second) {
-        (Some(text), None) => Ok(Asked::Label(text)),
-        (None, _) => Err(Failure::Said("which label? give a text")),
-        _ => Err(Failure::Said(USAGE)),
+// A verb and what follows it.
+fn read_words(verb: &str, first: Option<String>, second: Option<String>) -> Result<Asked, Failure> {
+    match (verb, first, second) {
+        ("show", Some(path), flag) => asked_show(path, flag),
+        ("show", None, _) => Err(Failure::NothingToShow),
+        ("play", Some(path), None) => Ok(Asked::Play(path)),
+        ("play", None, _) => Err(Failure::NothingToPlay),
+        ("state", Some(kind), Some(usage)) => asked_state(kind.as_str(), usage.as_str()),
+        ("state", _, _) => Err(Failure::NoResource),
+        ("label", Some(text), None) => Ok(Asked::Label(text)),
+        ("label", None, _) => Err(Failure::NoLabel),
+        ("layout", None, _) => Ok(Asked::Layout),
+        ("help" | "--help" | "-h", None, _) => Ok(Asked::Help),
+        _ => Err(Failure::BadArguments),
     }
 }
 
@@ -262,17 +225,9 @@ fn read_args(rt: &HostRuntime) -> Result<Asked, Failure> {
     let first = args.next();
     let second = args.next();
     if args.next().is_some() {
-        return Err(Failure::Said(USAGE));
+        return Err(Failure::BadArguments);
     }
-    match verb.as_str() {
-        "show" => asked_show(first, second),
-        "play" => asked_play(first, second),
-        "state" => asked_state(first, second),
-        "label" => asked_label(first, second),
-        "layout" if first.is_none() => Ok(Asked::Layout),
-        "help" | "--help" | "-h" if first.is_none() => Ok(Asked::Help),
-        _ => Err(Failure::Said(USAGE)),
-    }
+    read_words(verb.as_str(), first, second)
 }
 
 fn run(rt: &HostRuntime) -> Result<(), Failure> {
@@ -282,21 +237,13 @@ fn run(rt: &HostRuntime) -> Result<(), Failure> {
             println!(rt; "{HELP}")?;
             Ok(())
         }
-        Asked::Show(path) => {
-            let bytes = read_file(rt, path.as_str())?;
-            print_list(rt, path.as_str(), bytes.as_slice())
-        }
-        Asked::Play(path) => {
-            let bytes = read_file(rt, path.as_str())?;
-            print_play(rt, path.as_str(), bytes.as_slice())
-        }
-        Asked::State(kind, usage) => print_state(rt, kind.as_str(), usage.as_str()),
+        Asked::Show(path) => with_file(rt, path.as_str(), |file| print_list(rt, file)),
+        Asked::Play(path) => with_file(rt, path.as_str(), |file| print_play(rt, file)),
+        Asked::Buffer(usage) => print_buffer(rt, usage),
+        Asked::Texture(usage) => print_texture(rt, usage),
         Asked::Label(text) => print_label(rt, text.as_str()),
         Asked::Layout => show_layout(rt),
-        Asked::TimeFile(path) => {
-            let bytes = read_file(rt, path.as_str())?;
-            time_list(rt, path.as_str(), bytes.as_slice())
-        }
+        Asked::TimeFile(path) => with_file(rt, path.as_str(), |file| time_list(rt, file)),
         Asked::TimeSample => time_sample(rt),
     }
 }

@@ -1,73 +1,7 @@
 // What a record looks like in print.
-use command_list::code::Code;
 use command_list::command::{Barrier, BarrierType, Fixed, Half};
-use command_list::fault::{Fault, Number};
 use command_list::record::{Entries, Handles, Record, Units};
 use std::fmt;
-
-// The name that Direct3D gives a code's call.
-pub(crate) fn name(code: Code) -> &'static str {
-    match code {
-        Code::BeginEvent => "BeginEvent",
-        Code::EndEvent => "EndEvent",
-        Code::SetDescriptorHeaps => "SetDescriptorHeaps",
-        Code::SetGraphicsRootSignature => "SetGraphicsRootSignature",
-        Code::SetComputeRootSignature => "SetComputeRootSignature",
-        Code::SetPipelineState => "SetPipelineState",
-        Code::IASetPrimitiveTopology => "IASetPrimitiveTopology",
-        Code::IASetVertexBuffers => "IASetVertexBuffers",
-        Code::SetGraphicsRoot32BitConstant => "SetGraphicsRoot32BitConstant",
-        Code::SetComputeRoot32BitConstant => "SetComputeRoot32BitConstant",
-        Code::SetGraphicsRootDescriptorTable => "SetGraphicsRootDescriptorTable",
-        Code::SetComputeRootDescriptorTable => "SetComputeRootDescriptorTable",
-        Code::SetGraphicsRootConstantBufferView => "SetGraphicsRootConstantBufferView",
-        Code::SetComputeRootConstantBufferView => "SetComputeRootConstantBufferView",
-        Code::OMSetRenderTargets => "OMSetRenderTargets",
-        Code::ClearRenderTargetView => "ClearRenderTargetView",
-        Code::RSSetViewports => "RSSetViewports",
-        Code::RSSetScissorRects => "RSSetScissorRects",
-        Code::ResourceBarrier => "ResourceBarrier",
-        Code::DrawInstanced => "DrawInstanced",
-        Code::Dispatch => "Dispatch",
-        Code::ExecuteIndirect => "ExecuteIndirect",
-    }
-}
-
-// What a refusal's number says.
-pub(crate) fn reason(number: Number) -> &'static str {
-    match number {
-        Number::Range => "something is out of its range",
-        Number::Text => "a label is not UTF-8",
-        Number::Absent => "an entry, a handle or a resource is not there",
-        Number::Count => "there are too many or too few buffers or offsets",
-        Number::Extent => "an address, a size or an end is too large",
-        Number::Layout => "another layout has the current signature",
-        Number::Pipeline => "no pipeline of the current signature is set",
-        Number::Unfit => "a root slot is not set as its layout says",
-        Number::Scratch => "the scratch does not take the barriers",
-        Number::Full => "there is not enough space",
-        Number::Slots => "a layout's slots do not fit",
-        Number::Owners => "a layout's slot has no owner, or two",
-        Number::Version => "it is empty, longer than 65536 bytes, or not of version 1",
-        Number::Cut => "a record is cut short or of length 0",
-        Number::Unknown => "a record's code is not known",
-        Number::Length => "a record's length is wrong for its code",
-        Number::Operand => "an operand is out of its range",
-    }
-}
-
-// A refusal in a line.
-#[derive(Clone, Copy)]
-pub struct Told(pub Fault);
-
-impl fmt::Display for Told {
-    fn fmt<W: fmt::Write>(&self, f: &mut fmt::Formatter<W>) -> fmt::Result {
-        let number = self.0.number.value();
-        let place = self.0.place;
-        let why = reason(self.0.number);
-        write!(f, "number {number}, place {place}: {why}")
-    }
-}
 
 // The operands of a record.
 #[derive(Clone, Copy)]
@@ -86,10 +20,8 @@ impl fmt::Display for Operands<'_> {
 
 fn units_to<W: fmt::Write>(units: Units, f: &mut fmt::Formatter<W>) -> fmt::Result {
     write!(f, " units")?;
-    for i in 0..units.len() {
-        if let Some(unit) = units.get(i) {
-            write!(f, " {unit:04X}")?;
-        }
+    for unit in (0..units.len()).filter_map(|i| units.get(i)) {
+        write!(f, " {unit:04X}")?;
     }
     Ok(())
 }
@@ -97,36 +29,33 @@ fn units_to<W: fmt::Write>(units: Units, f: &mut fmt::Formatter<W>) -> fmt::Resu
 fn handles_to<W: fmt::Write>(handles: Handles, f: &mut fmt::Formatter<W>) -> fmt::Result {
     let n = handles.len();
     write!(f, " count {n}")?;
-    for i in 0..n {
-        if let Some(handle) = handles.get(i) {
-            write!(f, ", target {handle}")?;
-        }
+    for handle in (0..n).filter_map(|i| handles.get(i)) {
+        write!(f, ", target {handle}")?;
     }
     Ok(())
 }
 
 fn entries_to<W: fmt::Write>(entries: Entries, f: &mut fmt::Formatter<W>) -> fmt::Result {
-    for i in 0..entries.len() {
-        if let Some(barrier) = entries.get(i) {
-            barrier_to(barrier, f)?;
-        }
+    for entry in (0..entries.len()).filter_map(|i| entries.get(i)) {
+        barrier_to(entry, f)?;
     }
     Ok(())
 }
 
 fn barrier_to<W: fmt::Write>(barrier: Barrier, f: &mut fmt::Formatter<W>) -> fmt::Result {
-    let resource = barrier.resource;
-    match barrier.kind {
+    let Barrier {
+        kind,
+        resource,
+        subresource,
+        before,
+        after,
+    } = barrier;
+    match kind {
         BarrierType::Uav => write!(f, " [UAV resource {resource}]"),
-        BarrierType::Transition => {
-            let subresource = barrier.subresource;
-            let before = barrier.before;
-            let after = barrier.after;
-            write!(
-                f,
-                " [transition resource {resource}, subresource {subresource:X}, {before:#X} to {after:#X}]"
-            )
-        }
+        BarrierType::Transition => write!(
+            f,
+            " [transition resource {resource}, subresource {subresource:X}, {before:#X} to {after:#X}]"
+        ),
     }
 }
 

@@ -1,14 +1,16 @@
 // What a board shows, in print.
-use crate::failure::{Failure, refusal};
-use crate::{print_record, show};
+use crate::failure::Failure;
+use crate::named::{Named, each_record};
+use crate::print_record;
 use board::board::Board;
 use board::state::{RootSlot, View};
 use command_list::code::Code;
 use command_list::command::{Fixed, Half};
-use command_list::reader::{MOST_BYTES, Reader};
 use command_list::record::Record;
 use device::recorder::Recorder;
 use std::fmt;
+
+const HALVES: [Half; 2] = [Half::Graphics, Half::Compute];
 
 // What a root slot holds, in a few words.
 #[derive(Clone, Copy)]
@@ -33,13 +35,6 @@ impl fmt::Display for Held {
     }
 }
 
-fn half_name(half: Half) -> &'static str {
-    match half {
-        Half::Graphics => "graphics",
-        Half::Compute => "compute",
-    }
-}
-
 // The half that a draw or a dispatch works with; none for other records.
 fn drawn_half(record: Record) -> Option<Half> {
     match record {
@@ -52,11 +47,10 @@ fn drawn_half(record: Record) -> Option<Half> {
 
 // What a draw or a dispatch finds on the device.
 fn print_found(rt: &impl Print, board: &Board, half: Half) -> Result<(), Failure> {
-    let name = half_name(half);
     let pipeline = board.pipeline();
     let signature = board.signature(half);
     println!(rt; "       pipeline {pipeline}")?;
-    println!(rt; "       {name} root signature {signature}")?;
+    println!(rt; "       {half} root signature {signature}")?;
     for i in 0..64 {
         let slot = board.slot(half, i);
         if slot != RootSlot::Unset {
@@ -64,17 +58,13 @@ fn print_found(rt: &impl Print, board: &Board, half: Half) -> Result<(), Failure
             println!(rt; "       root slot {i}: {held}")?;
         }
     }
-    for i in 0..16 {
-        if board.vertex_writes(i) > 0 {
-            let View {
-                address,
-                size,
-                stride,
-            } = board.vertex(i);
-            println!(rt;
-                "       vertex slot {i}: address {address}, size {size}, stride {stride}"
-            )?;
-        }
+    for i in (0..16).filter(|&i| board.vertex_writes(i) > 0) {
+        let View {
+            address,
+            size,
+            stride,
+        } = board.vertex(i);
+        println!(rt; "       vertex slot {i}: address {address}, size {size}, stride {stride}")?;
     }
     Ok(())
 }
@@ -82,22 +72,18 @@ fn print_found(rt: &impl Print, board: &Board, half: Half) -> Result<(), Failure
 // How many commands of each code there were, and how often each slot was written.
 fn print_counts(rt: &impl Print, board: &Board) -> Result<(), Failure> {
     println!(rt; "counts")?;
-    for byte in 0..32 {
-        if let Some(code) = Code::named(byte) {
-            let count = board.count(code);
-            let name = show::name(code);
-            if count > 0 {
-                println!(rt; "{count:>6} {name}")?;
-            }
+    for code in (0..32u8).filter_map(|byte| Code::try_from(byte).ok()) {
+        let count = board.count(code);
+        if count > 0 {
+            println!(rt; "{count:>6} {code:?}")?;
         }
     }
     println!(rt; "writes")?;
-    for half in [Half::Graphics, Half::Compute] {
-        let name = half_name(half);
+    for half in HALVES {
         for i in 0..64 {
             let writes = board.slot_writes(half, i);
             if writes > 0 {
-                println!(rt; "{writes:>6} {name} root slot {i}")?;
+                println!(rt; "{writes:>6} {half} root slot {i}")?;
             }
         }
     }
@@ -112,100 +98,35 @@ fn print_counts(rt: &impl Print, board: &Board) -> Result<(), Failure> {
 
 // Plays a list on a board, up to the first record that is refused: each draw with what it finds,
 // and, of a list that is taken whole, the counts.
-pub(crate) fn print_play(
-    rt: &(impl Print + AllocGlobal),
-    what: &str,
-    file: &[u8],
-) -> Result<(), Failure> {
-    let mut reader = match Reader::open(file) {
-        Ok(reader) => reader,
-        Err(fault) => return Err(refusal(rt, what, fault)),
-    };
-    let mut board = Board::new(file.len());
-    for _ in 0..MOST_BYTES {
-        let at = reader.place();
-        match reader.next() {
-            Ok(None) => return print_counts(rt, &board),
-            Ok(Some(record)) => {
-                if let Some(half) = drawn_half(record) {
-                    let byte = file.get(at.saturating_add(2)).copied().unwrap_or(0);
-                    print_record(rt, at, byte, record)?;
-                    print_found(rt, &board, half)?;
-                }
-                if let Err(fault) = board.replay(record) {
-                    return Err(refusal(rt, what, fault));
-                }
-            }
-            Err(fault) => return Err(refusal(rt, what, fault)),
+pub(crate) fn print_play(rt: &(impl Print + AllocGlobal), file: Named) -> Result<(), Failure> {
+    let mut board = Board::new(file.list.len());
+    each_record(rt.alloc(), file, |at, record| {
+        if let Some(half) = drawn_half(record) {
+            print_record(rt, at, record)?;
+            print_found(rt, &board, half)?;
         }
-    }
-    Ok(())
+        board
+            .record(record)
+            .map_err(|fault| file.refusal(rt.alloc(), fault))
+    })?;
+    print_counts(rt, &board)
 }
 
 // Whether a half is the same on two boards.
 fn same_half(a: &Board, b: &Board, half: Half) -> bool {
-    let mut same = a.signature(half) == b.signature(half);
-    for i in 0..64 {
-        same = same
-            && a.slot(half, i) == b.slot(half, i)
-            && a.slot_writes(half, i) == b.slot_writes(half, i);
-    }
-    same
-}
-
-// The operands of a draw or a dispatch with its code; of another command, only the code.
-fn draw_words(fixed: Fixed) -> (u8, [u64; 5]) {
-    let words = match fixed {
-        Fixed::DrawInstanced {
-            vertices,
-            instances,
-            first_vertex,
-            first_instance,
-        } => [
-            u64::from(vertices),
-            u64::from(instances),
-            u64::from(first_vertex),
-            u64::from(first_instance),
-            0,
-        ],
-        Fixed::Dispatch { x, y, z } => [u64::from(x), u64::from(y), u64::from(z), 0, 0],
-        Fixed::ExecuteIndirect {
-            half,
-            special,
-            count,
-            buffer,
-            offset,
-        } => [
-            u64::from(half == Half::Compute),
-            u64::from(special.unwrap_or(255)),
-            u64::from(count),
-            u64::from(buffer),
-            offset,
-        ],
-        _ => [0; 5],
-    };
-    (fixed.code().byte(), words)
-}
-
-// Whether the latest draws or dispatches of two boards are the same.
-fn same_latest(a: Option<Fixed>, b: Option<Fixed>) -> bool {
-    match (a, b) {
-        (None, None) => true,
-        (Some(a), Some(b)) => draw_words(a) == draw_words(b),
-        _ => false,
-    }
+    a.signature(half) == b.signature(half)
+        && (0..64).all(|i| {
+            a.slot(half, i) == b.slot(half, i) && a.slot_writes(half, i) == b.slot_writes(half, i)
+        })
 }
 
 // Whether two boards show the same.
 pub(crate) fn same(a: &Board, b: &Board) -> bool {
-    let mut same = same_half(a, b, Half::Graphics) && same_half(a, b, Half::Compute);
-    for i in 0..16 {
-        same = same && a.vertex(i) == b.vertex(i) && a.vertex_writes(i) == b.vertex_writes(i);
-    }
-    for byte in 0..32 {
-        if let Some(code) = Code::named(byte) {
-            same = same && a.count(code) == b.count(code);
-        }
-    }
-    same && a.pipeline() == b.pipeline() && same_latest(a.latest(), b.latest())
+    HALVES.iter().all(|half| same_half(a, b, *half))
+        && (0..16).all(|i| a.vertex(i) == b.vertex(i) && a.vertex_writes(i) == b.vertex_writes(i))
+        && (0..32u8)
+            .filter_map(|byte| Code::try_from(byte).ok())
+            .all(|code| a.count(code) == b.count(code))
+        && a.pipeline() == b.pipeline()
+        && a.latest() == b.latest()
 }

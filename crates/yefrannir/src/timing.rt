@@ -1,22 +1,23 @@
 // How long writing, reading and rewriting a list takes.
-use crate::failure::{Failure, refusal};
+use crate::failure::Failure;
+use crate::named::Named;
 use command_list::reader::MOST_BYTES;
 use list_file::{check, rewrite};
-use list_writer::writer::{append, begin};
+use list_writer::writer::{Recordable, begin};
 use std::rt::Clock;
 use std::time::Instant;
 
 // As many records of the plot, one after the other, as a list takes, and how long that list is.
+// The tests fill a list so too: as a public function it would need a contract that no caller uses.
 fn fill(bytes: &mut [u8]) -> usize {
-    let commands = season_plot::commands();
     let Ok(mut end) = begin(bytes) else {
         return 0;
     };
-    for i in 0..MOST_BYTES {
-        match append(bytes, end, commands[i % season_plot::COUNT]) {
-            Ok(next) => end = next,
-            Err(_) => break,
-        }
+    for command in season_plot::commands().iter().cycle().take(MOST_BYTES) {
+        let Ok(next) = command.append_to(bytes, end) else {
+            break;
+        };
+        end = next;
     }
     end
 }
@@ -29,22 +30,18 @@ fn told(rt: &impl Print, what: &str, bytes: usize, nanos: u128) -> Result<(), Fa
 // Reads a list once and rewrites it once, with the time of each.
 pub(crate) fn time_list(
     rt: &(impl Print + Clock + AllocGlobal),
-    what: &str,
-    list: &[u8],
+    file: Named,
 ) -> Result<(), Failure> {
+    let Named { name, list } = file;
+    let refusal = |fault| file.refusal(rt.alloc(), fault);
     let start = Instant::now(rt)?;
-    let count = match check(list) {
-        Ok(count) => count,
-        Err(fault) => return Err(refusal(rt, what, fault)),
-    };
+    let count = check(list).map_err(refusal)?;
     let read = start.elapsed(rt)?;
     let mut out = [0u8; MOST_BYTES];
     let start = Instant::now(rt)?;
-    if let Err(fault) = rewrite(list, &mut out) {
-        return Err(refusal(rt, what, fault));
-    }
+    let _ = rewrite(list, &mut out).map_err(refusal)?;
     let rewritten = start.elapsed(rt)?;
-    println!(rt; "{what}: {count} records")?;
+    println!(rt; "{name}: {count} records")?;
     told(rt, "read", list.len(), read.as_nanos())?;
     told(rt, "read and rewritten", list.len(), rewritten.as_nanos())
 }
@@ -56,8 +53,9 @@ pub(crate) fn time_sample(rt: &(impl Print + Clock + AllocGlobal)) -> Result<(),
     let end = fill(&mut bytes);
     let written = start.elapsed(rt)?;
     told(rt, "written", end, written.as_nanos())?;
-    match bytes.get(0..end) {
-        Some(list) => time_list(rt, "a list of 64 KiB", list),
-        None => Ok(()),
-    }
+    let Some(list) = bytes.get(0..end) else {
+        return Ok(());
+    };
+    let name = "a list of 64 KiB";
+    time_list(rt, Named { name, list })
 }
