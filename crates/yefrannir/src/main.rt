@@ -19,7 +19,7 @@ use list_bytes::{ListBytes, measured};
 use list_file::{check, records_are_known, rewrite, write};
 use list_play::board_of;
 use list_writer::writer::Recordable;
-use named::{Named, each_record};
+use named::Named;
 use resources::uses::{BufferUses, TextureUses};
 use show::Operands;
 use shown::{print_play, same};
@@ -60,7 +60,7 @@ fn print_record(rt: &impl Print, at: usize, record: Record) -> Result<(), Failur
 
 // The records of a file, up to the first that is refused.
 fn print_list(rt: &(impl Print + AllocGlobal), file: Named) -> Result<(), Failure> {
-    each_record(rt.alloc(), file, |at, record| print_record(rt, at, record))
+    file.each_record(rt.alloc(), |at, record| print_record(rt, at, record))
 }
 
 // Gives the plot's commands to a recorder.

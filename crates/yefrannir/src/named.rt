@@ -17,22 +17,21 @@ impl Named<'_> {
     pub(crate) fn refusal(self, alloc: Global, fault: Fault) -> Failure {
         refusal(alloc, self.name, fault)
     }
-}
 
-// Hands each record of a list with its place to `visit`, up to the first record that is refused.
-pub(crate) fn each_record<V: FnMut(usize, Record) -> Result<(), Failure>>(
-    alloc: Global,
-    file: Named,
-    mut visit: V,
-) -> Result<(), Failure>
-    requires { V.IsAlwaysCallable visit }
-{
-    let Named { name, list } = file;
-    let mut reader = Reader::open(list).map_err(|fault| refusal(alloc, name, fault))?;
-    let mut at = reader.place();
-    while let Some(record) = reader.next().map_err(|fault| refusal(alloc, name, fault))? {
-        visit(at, record)?;
-        at = reader.place();
+    // Hands each record with its place to `visit`, up to the first record that is refused.
+    pub(crate) fn each_record<V: FnMut(usize, Record) -> Result<(), Failure>>(
+        self,
+        alloc: Global,
+        mut visit: V,
+    ) -> Result<(), Failure>
+        requires { V.IsAlwaysCallable visit }
+    {
+        let mut reader = Reader::open(self.list).map_err(|fault| self.refusal(alloc, fault))?;
+        let mut at = reader.place();
+        while let Some(record) = reader.next().map_err(|fault| self.refusal(alloc, fault))? {
+            visit(at, record)?;
+            at = reader.place();
+        }
+        Ok(())
     }
-    Ok(())
 }

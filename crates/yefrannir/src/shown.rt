@@ -1,6 +1,6 @@
 // What a board shows, in print.
 use crate::failure::Failure;
-use crate::named::{Named, each_record};
+use crate::named::Named;
 use crate::print_record;
 use board::board::Board;
 use board::state::{RootSlot, View};
@@ -100,7 +100,7 @@ fn print_counts(rt: &impl Print, board: &Board) -> Result<(), Failure> {
 // and, of a list that is taken whole, the counts.
 pub(crate) fn print_play(rt: &(impl Print + AllocGlobal), file: Named) -> Result<(), Failure> {
     let mut board = Board::new(file.list.len());
-    each_record(rt.alloc(), file, |at, record| {
+    file.each_record(rt.alloc(), |at, record| {
         if let Some(half) = drawn_half(record) {
             print_record(rt, at, record)?;
             print_found(rt, &board, half)?;

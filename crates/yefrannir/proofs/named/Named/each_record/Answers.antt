@@ -1,6 +1,6 @@
 use Rattle.std.proofs.Common.{refl}
 use Rattle.yefrannir.proofs.Steps.{shorter}
-use Rattle.yefrannir.proofs.named.each_record.Goals as goal
+use Rattle.yefrannir.proofs.named.Named.each_record.Goals as goal
 
 pub loop-visit-smaller : goal.loop-visit-smaller
 loop-visit-smaller g c =
