@@ -10,7 +10,6 @@ use resources::batch::{barrier, transition};
 use resources::conv::{map_buffer_usage_to_state, map_texture_usage_to_state};
 use resources::scratch::{Mark, Scratch};
 use resources::uses::{BufferUses, TextureUses};
-use std::process::Abort;
 use std::test::Fail;
 
 // A change from one usage to another.
@@ -25,50 +24,50 @@ fn buffer(resource: u32, from: u32, to: u32) -> BufferBarrier {
     change(resource, BufferUses { bits: from }, BufferUses { bits: to })
 }
 
-// Each usage comes to the state that stands for it in the table.
-fn states_are<S: Fn(u32) -> u32>(rt: &impl Abort, wanted: &[u32], state: S)
+// Whether each usage comes to the state that stands for it in the table.
+fn states_are<S: Fn(u32) -> u32>(wanted: &[u32], state: S) -> bool
     requires { S.IsAlwaysCallable state }
 {
-    for (bits, wanted) in (0..).zip(wanted) {
-        assert_eq!(rt; state(bits), *wanted);
-    }
+    (0..)
+        .zip(wanted)
+        .all(|(bits, wanted)| state(bits) == *wanted)
 }
 
 #[test]
 fn all_buffer_usages(rt: HostRuntime) {
-    states_are(&rt, &BUFFER_STATES, |bits| {
-        map_buffer_usage_to_state(BufferUses { bits })
-    });
+    assert!(rt;
+        states_are(
+            &BUFFER_STATES,
+            |bits| map_buffer_usage_to_state(BufferUses { bits })
+        )
+    );
 }
 
 #[test]
 fn all_texture_usages(rt: HostRuntime) {
-    states_are(&rt, &TEXTURE_STATES, |bits| {
-        map_texture_usage_to_state(TextureUses { bits })
-    });
+    assert!(rt;
+        states_are(
+            &TEXTURE_STATES,
+            |bits| map_texture_usage_to_state(TextureUses { bits })
+        )
+    );
 }
 
-// Of the usages below an end, those that stay and make a barrier all the same are these.
-fn ordered_are<U: Uses + Copy, M: Fn(u32) -> U>(
-    rt: &impl Abort,
-    end: u32,
-    ordered: &[u32],
-    usage: M,
-)
+// Whether, of the usages below an end, these and no others make a barrier where they stay.
+fn ordered_are<U: Uses + Copy, M: Fn(u32) -> U>(end: u32, ordered: &[u32], usage: M) -> bool
     requires { M.IsAlwaysCallable usage }
 {
-    for bits in 0..end {
+    (0..end).all(|bits| {
         let usage = usage(bits);
-        let made = barrier(&change(1, usage, usage)).is_some();
-        assert_eq!(rt; made, ordered.contains(&bits));
-    }
+        barrier(&change(1, usage, usage)).is_some() == ordered.contains(&bits)
+    })
 }
 
 // A usage that stays makes a barrier only where the Rust made one.
 #[test]
 fn usages_that_stay(rt: HostRuntime) {
-    ordered_are(&rt, 512, &[64, 256], |bits| BufferUses { bits });
-    ordered_are(&rt, 1024, &[512], |bits| TextureUses { bits });
+    assert!(rt; ordered_are(512, &[64, 256], |bits| BufferUses { bits }));
+    assert!(rt; ordered_are(1024, &[512], |bits| TextureUses { bits }));
 }
 
 #[test]
@@ -98,81 +97,84 @@ const FREE: Barrier = Barrier {
     after: 0,
 };
 
-// What a call answers on a scratch of so many entries, whose fill and whose host's entry stay.
+// What a call answers on a scratch of so many entries. It fails where the fill or the host's entry did not stay.
 fn answered(
-    rt: &impl Abort,
     entries: &mut [Barrier],
     fill: usize,
     list: &[BufferBarrier],
     board: &mut Board,
-) -> Result<(), Fault> {
+) -> Result<Result<(), Fault>, Fail> {
     let mut scratch = Scratch {
         entries,
         mark: Mark { fill },
     };
     let answer = transition(board, &mut scratch, list);
-    assert_eq!(rt; scratch.mark.fill, fill);
-    assert!(rt;
-        scratch
-            .entries
-            .first()
-            .is_none_or(|entry| entry.resource == 99)
-    );
-    answer
+    let kept = scratch.mark.fill == fill;
+    let host = scratch
+        .entries
+        .first()
+        .is_none_or(|entry| entry.resource == 99);
+    if !kept || !host {
+        return Err(Fail::new("the scratch is not as it was"));
+    }
+    Ok(answer)
 }
 
 #[test]
-fn a_scratch_is_left_as_it_was(rt: HostRuntime) {
+fn a_scratch_is_left_as_it_was(rt: HostRuntime) -> Result<(), Fail> {
     let two = [buffer(1, 2, 8), buffer(2, 64, 64)];
     let mut board = Board::new(1000);
     let mut entries = [FREE; 3];
-    assert_eq!(rt; answered(&rt, &mut entries, 1, &two, &mut board), Ok(()));
+    assert_eq!(rt; answered(&mut entries, 1, &two, &mut board)?, Ok(()));
     assert_eq!(rt; board.count(Code::ResourceBarrier), 1);
     assert_eq!(rt; board.space(), 963);
     assert_eq!(rt;
-        answered(&rt, &mut entries, 2, &two, &mut board),
+        answered(&mut entries, 2, &two, &mut board)?,
         Err(Number::Scratch.at(0))
     );
     let mut small = Board::new(36);
     assert_eq!(rt;
-        answered(&rt, &mut entries, 1, &two, &mut small),
+        answered(&mut entries, 1, &two, &mut small)?,
         Err(Number::Full.at(0))
     );
     assert_eq!(rt; small.space(), 36);
     assert_eq!(rt;
-        answered(&rt, &mut entries, 3, &[buffer(1, 65, 65)], &mut small),
+        answered(&mut entries, 3, &[buffer(1, 65, 65)], &mut small)?,
         Ok(())
     );
+    Ok(())
 }
 
 #[test]
-fn usages_are_asked_before_resources(rt: HostRuntime) {
+fn usages_are_asked_before_resources(rt: HostRuntime) -> Result<(), Fail> {
     let mut board = Board::new(1000);
     let mut entries = [FREE; 3];
     let list = [buffer(0, 2, 8), buffer(1, 2, 512)];
     assert_eq!(rt;
-        answered(&rt, &mut entries, 1, &list, &mut board),
+        answered(&mut entries, 1, &list, &mut board)?,
         Err(Number::Range.at(1))
     );
     let list = [buffer(1, 2, 8), buffer(0, 2, 511)];
     assert_eq!(rt;
-        answered(&rt, &mut entries, 1, &list, &mut board),
+        answered(&mut entries, 1, &list, &mut board)?,
         Err(Number::Absent.at(1))
     );
-    assert_eq!(rt; answered(&rt, &mut entries, 1, &[], &mut board), Ok(()));
+    assert_eq!(rt; answered(&mut entries, 1, &[], &mut board)?, Ok(()));
+    Ok(())
 }
 
 #[test]
-fn a_scratch_of_at_most_2048(rt: HostRuntime) {
+fn a_scratch_of_at_most_2048(rt: HostRuntime) -> Result<(), Fail> {
     let mut board = Board::new(1000);
     let mut entries = [FREE; 2049];
     assert_eq!(rt;
-        answered(&rt, &mut entries, 0, &[], &mut board),
+        answered(&mut entries, 0, &[], &mut board)?,
         Err(Number::Scratch.at(0))
     );
     let mut entries = [FREE; 2048];
     assert_eq!(rt;
-        answered(&rt, &mut entries, 2047, &[buffer(1, 2, 8)], &mut board),
+        answered(&mut entries, 2047, &[buffer(1, 2, 8)], &mut board)?,
         Ok(())
     );
+    Ok(())
 }

@@ -3,7 +3,6 @@ use crate::failure::{Failure, refusal};
 use command_list::command::Command;
 use command_list::fault::{Fault, Number};
 use labels::label::Label;
-use layouts::info::Owner;
 use layouts::layout::PipelineLayout;
 use list_writer::writer::Recordable;
 use resources::barrier::Uses;
@@ -130,14 +129,10 @@ pub(crate) fn print_layout(rt: &impl Print, layout: &PipelineLayout) -> Result<(
     let signature = layout.signature();
     print!(rt; "layout of signature {signature}")?;
     for slot in 0..layout.total() {
-        let name = match layout.owner(slot) {
-            Some(Owner::Table) => "table",
-            Some(Owner::Uniform) => "uniform",
-            Some(Owner::Immediates) => "immediates",
-            Some(Owner::Special) => "special constants",
-            None => "nothing",
-        };
-        print!(rt; ", slot {slot} {name}")?;
+        match layout.owner(slot) {
+            Some(owner) => print!(rt; ", slot {slot} {owner}")?,
+            None => print!(rt; ", slot {slot} nothing")?,
+        }
     }
     println!(rt; "")?;
     Ok(())
