@@ -55,51 +55,23 @@ fn totals(rt: HostRuntime) {
     assert_eq!(rt; made(0, 65, None, None, &[]), Err(Number::Range));
 }
 
+// The same of groups alone.
+fn grouped(total: u32, groups: &[GroupEntry]) -> Result<(), Number> {
+    made(5, total, None, None, groups)
+}
+
 #[test]
 fn groups(rt: HostRuntime) {
-    assert_eq!(rt; made(5, 1, None, None, &[group(7, 0, true, 0)]), Ok(()));
-    assert_eq!(rt;
-        made(5, 1, None, None, &[group(8, 0, true, 0)]),
-        Err(Number::Range)
-    );
-    assert_eq!(rt;
-        made(5, 0, None, None, &[group(0, 4_000_000_000, false, 0)]),
-        Ok(())
-    );
-    assert_eq!(rt;
-        made(
-            5,
-            1,
-            None,
-            None,
-            &[group(0, 4_294_967_295, true, 4_294_967_295)],
-        ),
-        Err(Number::Slots)
-    );
-    assert_eq!(rt;
-        made(5, 2, None, None, &[group(0, 0, true, 0)]),
-        Err(Number::Owners)
-    );
-    assert_eq!(rt;
-        made(
-            5,
-            1,
-            None,
-            None,
-            &[group(0, 0, true, 0), group(1, 0, false, 1)],
-        ),
-        Err(Number::Owners)
-    );
-    assert_eq!(rt;
-        made(
-            5,
-            1,
-            None,
-            None,
-            &[group(0, 9, true, 0), group(0, 0, true, 0)],
-        ),
-        Ok(())
-    );
+    assert_eq!(rt; grouped(1, &[group(7, 0, true, 0)]), Ok(()));
+    assert_eq!(rt; grouped(1, &[group(8, 0, true, 0)]), Err(Number::Range));
+    assert_eq!(rt; grouped(0, &[group(0, 4_000_000_000, false, 0)]), Ok(()));
+    let wide = [group(0, 4_294_967_295, true, 4_294_967_295)];
+    assert_eq!(rt; grouped(1, &wide), Err(Number::Slots));
+    assert_eq!(rt; grouped(2, &[group(0, 0, true, 0)]), Err(Number::Owners));
+    let twice = [group(0, 0, true, 0), group(1, 0, false, 1)];
+    assert_eq!(rt; grouped(1, &twice), Err(Number::Owners));
+    let replaced = [group(0, 9, true, 0), group(0, 0, true, 0)];
+    assert_eq!(rt; grouped(1, &replaced), Ok(()));
 }
 
 #[test]

@@ -6,7 +6,7 @@ use list_writer::writer::{Recordable, begin};
 use std::test::Fail;
 
 // The plot's commands one after the other, as many as fit; how many, and where the list ends.
-// The program fills a list so too: as a public function it would need a contract that no caller uses.
+// The program has such a loop too: shared, it would need a contract, which no caller could use.
 fn fill(bytes: &mut [u8]) -> Result<(usize, usize), Fault> {
     let mut end = begin(bytes)?;
     let commands = season_plot::commands();

@@ -217,8 +217,7 @@ fn read_words(verb: &str, first: Option<String>, second: Option<String>) -> Resu
 }
 
 fn read_args(rt: &HostRuntime) -> Result<Asked, Failure> {
-    let mut args = env::args(rt)?;
-    let _ = args.next();
+    let mut args = env::args(rt)?.skip(1);
     let Some(verb) = args.next() else {
         return Ok(Asked::Plot);
     };

@@ -59,6 +59,7 @@ fn barrier_to<W: fmt::Write>(barrier: Barrier, f: &mut fmt::Formatter<W>) -> fmt
     }
 }
 
+// An arm for each command: a table, which is longer than other functions.
 fn fixed_to<W: fmt::Write>(fixed: Fixed, f: &mut fmt::Formatter<W>) -> fmt::Result {
     match fixed {
         Fixed::EndEvent => Ok(()),

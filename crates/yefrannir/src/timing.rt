@@ -8,7 +8,7 @@ use std::rt::Clock;
 use std::time::Instant;
 
 // As many records of the plot, one after the other, as a list takes, and how long that list is.
-// The tests fill a list so too: as a public function it would need a contract that no caller uses.
+// By the writer alone, whose time is told: through a recorder it takes half as long again.
 fn fill(bytes: &mut [u8]) -> usize {
     let Ok(mut end) = begin(bytes) else {
         return 0;
