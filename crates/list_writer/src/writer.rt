@@ -93,50 +93,65 @@ fn record_size(fixed: Fixed) -> usize
     }
 }
 
-// Writes the record of a command of a fixed width, whose slots and words are known to be in range.
+// Writes the record of a command of a fixed width, whose slots and words are known to be in range. Each arm says its
+// code and its size, so that none is looked up where records are written one after the other.
 fn append_in_range(bytes: &mut [u8], end: usize, fixed: Fixed) -> Result<usize, Fault>
     ensures { Appended bytes.old end (code_of (fixed_command fixed)) (fields (fixed_command fixed)) result bytes.new }
 {
-    let (code, size) = (fixed.code(), record_size(fixed));
     match fixed {
-        Fixed::EndEvent => append_row(bytes, end, size, code, ()),
-        Fixed::SetDescriptorHeaps(on) => append_row(bytes, end, size, code, u8::from(on)),
-        Fixed::SetRootSignature { signature, .. } => append_row(bytes, end, size, code, signature),
-        Fixed::SetPipelineState(pipeline) => append_row(bytes, end, size, code, pipeline),
-        Fixed::IASetPrimitiveTopology(topology) => append_row(bytes, end, size, code, topology),
+        Fixed::EndEvent => append_row(bytes, end, 3, Code::EndEvent, ()),
+        Fixed::SetDescriptorHeaps(on) => {
+            append_row(bytes, end, 4, Code::SetDescriptorHeaps, u8::from(on))
+        }
+        Fixed::SetRootSignature { signature, .. } => {
+            append_row(bytes, end, 7, fixed.code(), signature)
+        }
+        Fixed::SetPipelineState(pipeline) => {
+            append_row(bytes, end, 7, Code::SetPipelineState, pipeline)
+        }
+        Fixed::IASetPrimitiveTopology(topology) => {
+            append_row(bytes, end, 7, Code::IASetPrimitiveTopology, topology)
+        }
         Fixed::IASetVertexBuffers {
             slot,
             address,
-            size: length,
+            size,
             stride,
-        } => append_row(bytes, end, size, code, (slot, (address, (length, stride)))),
+        } => {
+            let row = (slot, (address, (size, stride)));
+            append_row(bytes, end, 20, Code::IASetVertexBuffers, row)
+        }
         Fixed::SetRoot32BitConstant {
             slot,
             word,
             value,
             ..
-        } => append_row(bytes, end, size, code, (slot, (word, value))),
+        } => append_row(bytes, end, 9, fixed.code(), (slot, (word, value))),
         Fixed::SetRootDescriptorTable { slot, address, .. } => {
-            append_row(bytes, end, size, code, (slot, address))
+            append_row(bytes, end, 12, fixed.code(), (slot, address))
         }
         Fixed::SetRootConstantBufferView { slot, address, .. } => {
-            append_row(bytes, end, size, code, (slot, address))
+            append_row(bytes, end, 12, fixed.code(), (slot, address))
         }
         Fixed::ClearRenderTargetView { target, colour } => {
             let [r, g, b, a] = colour;
-            append_row(bytes, end, size, code, (target, (r, (g, (b, a)))))
+            let row = (target, (r, (g, (b, a))));
+            append_row(bytes, end, 27, Code::ClearRenderTargetView, row)
         }
         Fixed::RSSetViewports(viewport) => {
             let [x, y, width, height, near, far] = viewport;
             let row = (x, (y, (width, (height, (near, far)))));
-            append_row(bytes, end, size, code, row)
+            append_row(bytes, end, 27, Code::RSSetViewports, row)
         }
         Fixed::RSSetScissorRects {
             left,
             top,
             right,
             bottom,
-        } => append_row(bytes, end, size, code, (left, (top, (right, bottom)))),
+        } => {
+            let row = (left, (top, (right, bottom)));
+            append_row(bytes, end, 19, Code::RSSetScissorRects, row)
+        }
         Fixed::DrawInstanced {
             vertices,
             instances,
@@ -144,9 +159,9 @@ fn append_in_range(bytes: &mut [u8], end: usize, fixed: Fixed) -> Result<usize, 
             first_instance,
         } => {
             let row = (vertices, (instances, (first_vertex, first_instance)));
-            append_row(bytes, end, size, code, row)
+            append_row(bytes, end, 19, Code::DrawInstanced, row)
         }
-        Fixed::Dispatch { x, y, z } => append_row(bytes, end, size, code, (x, (y, z))),
+        Fixed::Dispatch { x, y, z } => append_row(bytes, end, 15, Code::Dispatch, (x, (y, z))),
         Fixed::ExecuteIndirect {
             half,
             special,
@@ -155,7 +170,8 @@ fn append_in_range(bytes: &mut [u8], end: usize, fixed: Fixed) -> Result<usize, 
             offset,
         } => {
             let call = (kind_byte(half), special.unwrap_or(255));
-            append_row(bytes, end, size, code, (call, (count, (buffer, offset))))
+            let row = (call, (count, (buffer, offset)));
+            append_row(bytes, end, 21, Code::ExecuteIndirect, row)
         }
     }
 }
@@ -266,17 +282,21 @@ impl<U: Listing<u16>, H: Listing<u64>, E: Listing<Barrier>> Recordable for Call<
     }
 
     fn append_to(self, bytes: &mut [u8], end: usize) -> Result<usize, Fault> {
-        let size = self.size()?;
         match self {
-            Call::BeginEvent(units) => append_row(bytes, end, size, Code::BeginEvent, units),
+            Call::BeginEvent(units) => {
+                let size = label_size(&units)?;
+                append_row(bytes, end, size, Code::BeginEvent, units)
+            }
             Call::OMSetRenderTargets(handles) => {
+                let size = targets_size(&handles)?;
                 let row = (handles.count() as u8, handles);
                 append_row(bytes, end, size, Code::OMSetRenderTargets, row)
             }
             Call::ResourceBarrier(entries) => {
+                let size = barriers_size(&entries)?;
                 append_row(bytes, end, size, Code::ResourceBarrier, entries)
             }
-            Call::Fixed(fixed) => append_in_range(bytes, end, fixed),
+            Call::Fixed(fixed) => fixed.append_to(bytes, end),
         }
     }
 }
