@@ -57,7 +57,8 @@ fn root_view(half: Half, slot: u8, address: u64) -> Fixed
 // A recorder takes commands into its space. A command is refused exactly when it has no record that
 // the reader takes or when that record is longer than the space; it then alters nothing. There is a
 // function for each code of the list file, as Direct3D has one for each call: all of them come to
-// `record`, and those that differ in a half alone share what makes their command.
+// `record`, and those that differ in a half alone share what makes their command. Operands stand singly,
+// as in Direct3D's calls.
 pub trait Recorder {
     ghost meaning: { Self → Meaning };
 

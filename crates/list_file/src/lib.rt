@@ -11,7 +11,8 @@ use command_list::fault::{FULL, Fault};
 use command_list::reader::{MOST_BYTES, Reader};
 use list_writer::writer::{Recordable, begin};
 
-// How many records a list file has, or its first refusal.
+// How many records a list file has, or its first refusal. A reader may refuse and then stand where it stood, so it is
+// no iterator with a `count`.
 pub fn check(file: &[u8]) -> Result<usize, Fault>
     ensures { Checked file.now result }
 {
@@ -56,6 +57,7 @@ pub fn rewrite(file: &[u8], out: &mut [u8]) -> Result<usize, Fault>
 pub fn list_size(commands: &[Command]) -> Result<usize, Fault>
     ensures { ListSize (map given_command commands.now) result }
 {
+    // Not `sum`: a size may be refused, and the total passes the limit before it could overflow.
     let mut total = 1;
     for command in commands {
         total += command.size()?;

@@ -138,6 +138,7 @@ impl<T: Entry> Operands for &[T] {
     ghost laid = { λ s. flat_map T.laid s.now };
 
     fn lay(self, out: &mut [u8]) -> usize {
+        // Where the next entry goes, which is no index of an entry.
         let mut at = 0;
         for x in self {
             at += (*x).lay(&mut out[at..]);

@@ -91,7 +91,7 @@ fn fill<U: Uses>(guard: &mut Restore<'_>, list: &[ResourceBarrier<U>]) -> Result
 }
 
 // The barriers of some changes in the entries from the fill on, recorded at once. The fill is as before on every way out.
-// Apart from `batch`, since the check takes no `&mut` that is passed on through the scratch's own to the guard.
+// The recorder and the list are lent for one call, so no struct holds both. Apart from `batch`, since the check takes no `&mut` that is passed on through the scratch's own to the guard.
 fn batch_in<U: Uses, R: Recorder>(
     recorder: &mut R,
     entries: &mut [Barrier],

@@ -11,7 +11,7 @@ pub struct Mark {
     pub fill: usize,
 }
 
-// Entries that the host lends. Those below the fill are its own; those above are free between calls.
+// Entries that the host lends, with their fill beside them, since nothing here takes memory. Those below the fill are its own; those above are free between calls.
 #[derive(Drop)]
 pub struct Scratch<'a> {
     pub entries: &'a mut [Barrier],

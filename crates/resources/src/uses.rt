@@ -1,6 +1,6 @@
 // Usages of resources: sets of flags, as the host gives them.
 
-// How a buffer is used.
+// How a buffer is used. A set of bits and no enum, since a usage may have several flags.
 #[derive(Clone, Copy)]
 pub struct BufferUses {
     pub bits: u32,
@@ -28,7 +28,7 @@ impl BufferUses {
     pub const END: u32 = 0x200;
 }
 
-// How a texture is used.
+// How a texture is used, as a set of bits too.
 #[derive(Clone, Copy)]
 pub struct TextureUses {
     pub bits: u32,

@@ -1,4 +1,5 @@
 // A second reading of the format, written on its own for the tests: it only counts and refuses.
+// It goes by places in the file, which it keeps by hand, as the format says a file is read.
 // It says refusals by the numbers of docs/REFUSALS.md, so that it has no type of the first reading.
 ghost use Rattle.std.specs.Prelude.{◌+◌, ◌<◌, ◌≤◌, length, IfOk};
 

@@ -9,9 +9,9 @@ use resources::barrier::Uses;
 use resources::uses::{BufferUses, TextureUses};
 
 // A flag with its name.
-type Flag = (u32, &'static str);
+pub(crate) type Flag = (u32, &'static str);
 
-const BUFFER_FLAGS: [Flag; 9] = [
+pub(crate) const BUFFER_FLAGS: [Flag; 9] = [
     (BufferUses::COPY_SRC, "COPY_SRC"),
     (BufferUses::COPY_DST, "COPY_DST"),
     (BufferUses::INDEX, "INDEX"),
@@ -26,7 +26,7 @@ const BUFFER_FLAGS: [Flag; 9] = [
     ),
 ];
 
-const TEXTURE_FLAGS: [Flag; 10] = [
+pub(crate) const TEXTURE_FLAGS: [Flag; 10] = [
     (TextureUses::UNINITIALIZED, "UNINITIALIZED"),
     (TextureUses::COPY_SRC, "COPY_SRC"),
     (TextureUses::COPY_DST, "COPY_DST"),
@@ -68,7 +68,7 @@ fn print_names(rt: &impl Print, number: u32, flags: &[Flag], none: &str) -> Resu
 }
 
 // A usage whose flags are known, and the state that it comes to.
-fn print_usage<U: Uses + Drop>(
+pub(crate) fn print_usage<U: Uses + Drop>(
     rt: &(impl Print + AllocGlobal),
     usage: U,
     bits: u32,
@@ -82,22 +82,6 @@ fn print_usage<U: Uses + Drop>(
     let state = usage.state();
     print!(rt; "state {state:#x}:")?;
     print_names(rt, state, &STATES, "COMMON")
-}
-
-// The state of a buffer's usage.
-pub(crate) fn print_buffer(
-    rt: &(impl Print + AllocGlobal),
-    usage: BufferUses,
-) -> Result<(), Failure> {
-    print_usage(rt, usage, usage.bits, &BUFFER_FLAGS)
-}
-
-// The state of a texture's usage.
-pub(crate) fn print_texture(
-    rt: &(impl Print + AllocGlobal),
-    usage: TextureUses,
-) -> Result<(), Failure> {
-    print_usage(rt, usage, usage.bits, &TEXTURE_FLAGS)
 }
 
 // A label's record at the start of some bytes; how many bytes it takes.

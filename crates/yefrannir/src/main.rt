@@ -13,7 +13,7 @@ use command_list::fault::Fault;
 use command_list::record::Record;
 use device::ration::Ration;
 use device::recorder::Recorder;
-use facts::{print_buffer, print_label, print_layout, print_texture};
+use facts::{BUFFER_FLAGS, TEXTURE_FLAGS, print_label, print_layout, print_usage};
 use failure::{Failure, refusal};
 use list_bytes::{ListBytes, measured};
 use list_file::{check, records_are_known, rewrite, write};
@@ -238,8 +238,8 @@ fn run(rt: &HostRuntime) -> Result<(), Failure> {
         }
         Asked::Show(path) => with_file(rt, path.as_str(), |file| print_list(rt, file)),
         Asked::Play(path) => with_file(rt, path.as_str(), |file| print_play(rt, file)),
-        Asked::Buffer(usage) => print_buffer(rt, usage),
-        Asked::Texture(usage) => print_texture(rt, usage),
+        Asked::Buffer(usage) => print_usage(rt, usage, usage.bits, &BUFFER_FLAGS),
+        Asked::Texture(usage) => print_usage(rt, usage, usage.bits, &TEXTURE_FLAGS),
         Asked::Label(text) => print_label(rt, text.as_str()),
         Asked::Layout => show_layout(rt),
         Asked::TimeFile(path) => with_file(rt, path.as_str(), |file| time_list(rt, file)),

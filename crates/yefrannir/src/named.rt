@@ -5,7 +5,7 @@ use command_list::reader::Reader;
 use command_list::record::Record;
 use std::alloc::Global;
 
-// A list file's bytes, and the name that messages give it.
+// A list file's bytes, and the name that messages give it. The runtime is passed beside it, as a handle is everywhere.
 #[derive(Clone, Copy)]
 pub(crate) struct Named<'a> {
     pub(crate) name: &'a str,

@@ -45,7 +45,7 @@ fn drawn_half(record: Record) -> Option<Half> {
     }
 }
 
-// What a draw or a dispatch finds on the device.
+// What a draw or a dispatch finds on the device. The board answers by a slot's number, so loops here go by numbers.
 fn print_found(rt: &impl Print, board: &Board, half: Half) -> Result<(), Failure> {
     let pipeline = board.pipeline();
     let signature = board.signature(half);
