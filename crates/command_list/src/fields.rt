@@ -45,6 +45,7 @@ impl Wide for u8 {
     }
 }
 
+// One instance for each width, since each asks the library of its own type.
 impl Wide for u16 {
     ghost value = { λ n. n };
 
@@ -120,7 +121,7 @@ fn read_descriptor_heaps(rest: &[u8]) -> Result<Record, Number>
 }
 
 // One number of four bytes. The readers below are one for each code, as their contracts are: where two read
-// alike, they share this or `slot_address` and differ in the case that they make.
+// alike, they share this or `slot_address` and differ in the case that they make. The half is what the code says.
 fn word(rest: &[u8]) -> Result<u32, Number>
     ensures { MatchResult result (λ n. (length rest.now ≡ 4) × (n ≡ number_at 4 0 rest.now)) (λ e. (e ≡ Number.Length) × (length rest.now ≢ 4)) }
 {

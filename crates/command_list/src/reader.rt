@@ -64,6 +64,7 @@ impl<'a> Reader<'a> {
         ensures gives { seen_step result self.new.at ≡ step_at self.old.file.now self.old.at }
     {
         let at = self.at;
+        // A match, since the contract has these three ways too.
         match front(&self.file[at..]) {
             Ok(None) => Ok(None),
             Ok(Some((record, size))) => {

@@ -116,6 +116,7 @@ impl Row for Barrier {
         if !holds(bytes, at, 17) {
             return None;
         }
+        // `let .. else`, which the check follows without help, and `.ok()?` not.
         let Ok(kind) = BarrierType::try_from(u8::get(bytes, at)) else {
             return None;
         };

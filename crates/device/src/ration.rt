@@ -51,6 +51,7 @@ impl<R: Recorder> Recorder for Ration<R> {
         self.rest = self.most;
     }
 
+    // The board's has this frame too, round a state and no recorder: a function over the middle line is no plainer.
     fn record<C: Recordable>(&mut self, command: C) -> Result<(), Fault> {
         let bytes = fitting(command.size()?, self.rest)?;
         self.below.record(command)?;

@@ -119,7 +119,8 @@ impl RootParts {
         (0..total).all(|slot| self.count(slot) == 1)
     }
 
-    // The slots of all groups that a kind of owner has, as a mask, from those of each group.
+    // The slots of all groups that a kind of owner has, as a mask, from those of each group. A loop: as a fold, whose
+    // closure calls the parameter, the proof did not close.
     fn mask<F: Fn(BindGroupInfo) -> u64>(&self, slots: F) -> u64
         requires { F.IsAlwaysCallable slots }
         ensures { (kind : Owner → Bool) → ((g : BindGroupInfo) (m : ℕ) → F.post slots g m → (k : ℕ) → bit m k ≡ (nat_lt k 64 && held kind (of_group k (Some g)))) → (k : ℕ) → bit result k ≡ (nat_lt k 64 && held kind (of_groups k self.now.groups)) }

@@ -13,7 +13,7 @@ use crate::mask::has;
 use command_list::fault::{Fault, Number};
 
 // What a pipeline expects at its root slots. The masks have the slots of tables and of uniforms. The parts stand
-// singly, since contracts above name them so.
+// singly: as one struct they would be no plainer, since clauses here and in other crates speak of each by itself.
 #[derive(Clone, Copy)]
 pub struct PipelineLayout {
     signature: u32,

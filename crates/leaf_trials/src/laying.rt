@@ -1,6 +1,5 @@
 // Layouts at the edges of what is asked of them.
 
-use command_list::fault::Number;
 use layouts::info::{
     BindGroupInfo, GroupEntry, ImmediatesInfo, Owner, PipelineLayoutSpecialConstants,
 };
@@ -29,17 +28,17 @@ fn immediates(root_index: u32, size: u32) -> Option<ImmediatesInfo> {
     Some(ImmediatesInfo { root_index, size })
 }
 
-// Whether a layout is made, or why not.
+// Whether a layout is made, or the number of its refusal, which is what hosts see.
 fn made(
     signature: u32,
     total: u32,
     special: Option<PipelineLayoutSpecialConstants>,
     immediates: Option<ImmediatesInfo>,
     groups: &[GroupEntry],
-) -> Result<(), Number> {
+) -> Result<(), u8> {
     match PipelineLayout::new(signature, total, special, immediates, groups) {
         Ok(_) => Ok(()),
-        Err(fault) => Err(fault.number),
+        Err(fault) => Err(u8::from(fault.number)),
     }
 }
 
@@ -47,29 +46,26 @@ fn made(
 fn totals(rt: HostRuntime) {
     assert_eq!(rt; made(5, 0, None, None, &[]), Ok(()));
     assert_eq!(rt; made(5, 64, None, None, &[group(0, 0, true, 63)]), Ok(()));
-    assert_eq!(rt;
-        made(5, 65, None, None, &[group(0, 0, true, 64)]),
-        Err(Number::Slots)
-    );
-    assert_eq!(rt; made(0, 0, None, None, &[]), Err(Number::Range));
-    assert_eq!(rt; made(0, 65, None, None, &[]), Err(Number::Range));
+    assert_eq!(rt; made(5, 65, None, None, &[group(0, 0, true, 64)]), Err(11));
+    assert_eq!(rt; made(0, 0, None, None, &[]), Err(1));
+    assert_eq!(rt; made(0, 65, None, None, &[]), Err(1));
 }
 
 // The same of groups alone.
-fn grouped(total: u32, groups: &[GroupEntry]) -> Result<(), Number> {
+fn grouped(total: u32, groups: &[GroupEntry]) -> Result<(), u8> {
     made(5, total, None, None, groups)
 }
 
 #[test]
 fn groups(rt: HostRuntime) {
     assert_eq!(rt; grouped(1, &[group(7, 0, true, 0)]), Ok(()));
-    assert_eq!(rt; grouped(1, &[group(8, 0, true, 0)]), Err(Number::Range));
+    assert_eq!(rt; grouped(1, &[group(8, 0, true, 0)]), Err(1));
     assert_eq!(rt; grouped(0, &[group(0, 4_000_000_000, false, 0)]), Ok(()));
     let wide = [group(0, 4_294_967_295, true, 4_294_967_295)];
-    assert_eq!(rt; grouped(1, &wide), Err(Number::Slots));
-    assert_eq!(rt; grouped(2, &[group(0, 0, true, 0)]), Err(Number::Owners));
+    assert_eq!(rt; grouped(1, &wide), Err(11));
+    assert_eq!(rt; grouped(2, &[group(0, 0, true, 0)]), Err(12));
     let twice = [group(0, 0, true, 0), group(1, 0, false, 1)];
-    assert_eq!(rt; grouped(1, &twice), Err(Number::Owners));
+    assert_eq!(rt; grouped(1, &twice), Err(12));
     let replaced = [group(0, 9, true, 0), group(0, 0, true, 0)];
     assert_eq!(rt; grouped(1, &replaced), Ok(()));
 }
@@ -77,19 +73,10 @@ fn groups(rt: HostRuntime) {
 #[test]
 fn single_slots(rt: HostRuntime) {
     assert_eq!(rt; made(5, 2, special(0), immediates(1, 32), &[]), Ok(()));
-    assert_eq!(rt;
-        made(5, 2, special(2), immediates(1, 32), &[]),
-        Err(Number::Slots)
-    );
-    assert_eq!(rt; made(5, 1, None, immediates(0, 0), &[]), Err(Number::Slots));
-    assert_eq!(rt;
-        made(5, 1, None, immediates(0, 33), &[]),
-        Err(Number::Slots)
-    );
-    assert_eq!(rt;
-        made(5, 1, special(0), immediates(0, 1), &[]),
-        Err(Number::Owners)
-    );
+    assert_eq!(rt; made(5, 2, special(2), immediates(1, 32), &[]), Err(11));
+    assert_eq!(rt; made(5, 1, None, immediates(0, 0), &[]), Err(11));
+    assert_eq!(rt; made(5, 1, None, immediates(0, 33), &[]), Err(11));
+    assert_eq!(rt; made(5, 1, special(0), immediates(0, 1), &[]), Err(12));
 }
 
 #[test]

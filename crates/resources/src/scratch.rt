@@ -51,7 +51,8 @@ impl<'a> Restore<'a> {
         Restore { entries, mark, was }
     }
 
-    // Puts one entry at the fill.
+    // Puts one entry at the fill. What stays of the guard is said here and by `fill`: no fact of its type says that a
+    // lent guard holds the same borrows.
     pub(crate) fn push(&mut self, barrier: Barrier) -> Result<(), Fault>
         ensures same_entries { self.new.entries.ghost_name ≡ self.old.entries.ghost_name }
         ensures same_mark { self.new.mark.ghost_name ≡ self.old.mark.ghost_name }

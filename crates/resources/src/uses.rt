@@ -28,7 +28,7 @@ impl BufferUses {
     pub const END: u32 = 0x200;
 }
 
-// How a texture is used, as a set of bits too.
+// How a texture is used, as a set of bits too: one more type, since its flags have other places.
 #[derive(Clone, Copy)]
 pub struct TextureUses {
     pub bits: u32,

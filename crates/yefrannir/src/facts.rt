@@ -67,7 +67,7 @@ fn print_names(rt: &impl Print, number: u32, flags: &[Flag], none: &str) -> Resu
     Ok(())
 }
 
-// A usage whose flags are known, and the state that it comes to.
+// A usage whose flags are known, and the state that it comes to. `Uses` does not give the bits, so they are handed over.
 pub(crate) fn print_usage<U: Uses + Drop>(
     rt: &(impl Print + AllocGlobal),
     usage: U,

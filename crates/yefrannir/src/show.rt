@@ -18,6 +18,7 @@ impl fmt::Display for Operands<'_> {
     }
 }
 
+// Rows are asked for by their place, here and below: they are parts of a file, and no slice.
 fn units_to<W: fmt::Write>(units: Units, f: &mut fmt::Formatter<W>) -> fmt::Result {
     write!(f, " units")?;
     for unit in (0..units.len()).filter_map(|i| units.get(i)) {
