@@ -1,15 +1,16 @@
 -- The owners of a layout's slots, and the values of elements that fit them.
-use Rattle.std.proofs.Common.{◌≡◌, ℕ, zero, suc, ◌<◌, ◌≤◌, Bool, true, false, cond, [], ◌∷◌, is_some, Some, None, Option, sym, refl, ap, ◌∙◌, subst, arith}
-use Rattle.std.proofs.lemmas.Bool.{true≢false, false≢true, eqb-true, lt-ltb}
+use Rattle.std.proofs.Common.{◌≡◌, ℕ, zero, suc, ◌+◌, ◌<◌, ◌≤◌, Bool, true, false, cond, [], ◌∷◌, is_some, Some, None, Option, sym, refl, ap, ◌∙◌, subst, ◌⊎◌, inl, inr, ⊎_elim, arith}
+use Rattle.std.proofs.lemmas.Bool.{true≢false, false≢true, eqb-true, lt-ltb, cases_lt}
 use Rattle.command_list.specs.declared.command.Half.{Half}
 use Rattle.command_list.specs.declared.command.Half.TheVariants.{Graphics, Compute}
+use Rattle.layouts.specs.declared.info.BindGroupInfo.{BindGroupInfo}
 use Rattle.layouts.specs.declared.info.ImmediatesInfo.{ImmediatesInfo}
 use Rattle.layouts.specs.declared.info.PipelineLayoutSpecialConstants.{PipelineLayoutSpecialConstants}
 use Rattle.layouts.specs.declared.info.Owner.{Owner}
 use Rattle.layouts.specs.declared.info.Owner.TheVariants.{Table, Uniform, Immediates as ImmediatesOwner, Special}
 use Rattle.layouts.specs.declared.layout.PipelineLayout.{PipelineLayout}
-use Rattle.layouts.specs.Owners.{owned, immediates_at, special_at}
-use Rattle.layouts.specs.Layouts.{owner_in, Owns}
+use Rattle.layouts.specs.Owners.{owned, immediates_at, special_at, first_uniform, behind}
+use Rattle.layouts.specs.Layouts.{owner_in, group_in, Owns}
 use Rattle.layouts.proofs.Wholeness.{whole, is_immediates, is_special, special_slot_lem, immediates_slot, owned_below}
 use Rattle.bindings.specs.declared.constants.SpecialConstants.{SpecialConstants as Constants}
 use Rattle.passes.specs.declared.element.RootElement.{RootElement}
@@ -69,6 +70,22 @@ own_special (Some l) i e = by l.special_constants e
 pub current_special_lem : (o : Option PipelineLayout) (i : ℕ) → current_special o ≡ Some i → (l : PipelineLayout) × (o ≡ Some l) × (special_slot l ≡ Some i)
 current_special_lem None i e = absurd (none≢some i e)
 current_special_lem (Some l) i e = (l, refl, e)
+
+-- a group's slots are the layout's, each its table's or a uniform's
+pub group_owned : (l : PipelineLayout) (i : ℕ) (g : BindGroupInfo) → group_in l i ≡ Some g → (j : ℕ) → g.base_root_index ≤ j → j < behind g → Owns l Table j ⊎ Owns l Uniform j
+group_owned l i g is j low high =
+    ⊎_elim
+    (λ (below : j < first_uniform g). let here = at_base g.table refl below in inl (subst (λ k. Owns l Table k) (sym here.1) ((whole l).table i g is here.0)))
+    (λ above. inr ((whole l).uniforms i g is j above high))
+    (cases_lt j (first_uniform g))
+  where
+    at_base : (b : Bool) → g.table ≡ b → j < g.base_root_index + cond g.table 1 0 → (g.table ≡ true) × (j ≡ g.base_root_index)
+    at_base true e h = let one : ◌≡◌ {A = ℕ} (cond g.table 1 0) 1 = ap (λ b. cond {A = ℕ} b 1 0) e in (e, omega arith)
+    at_base false e h = let one : ◌≡◌ {A = ℕ} (cond g.table 1 0) 0 = ap (λ b. cond {A = ℕ} b 1 0) e in absurd (omega arith)
+
+-- and so they are below 64
+pub group_below : (l : PipelineLayout) (i : ℕ) (g : BindGroupInfo) → group_in l i ≡ Some g → (j : ℕ) → g.base_root_index ≤ j → j < behind g → j < 64
+group_below l i g is j low high = let few = (whole l).few in ⊎_elim (λ o. omega (arith, o.0)) (λ o. omega (arith, o.0)) (group_owned l i g is j low high)
 
 -- ---- elements and their values
 

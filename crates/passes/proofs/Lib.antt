@@ -1,2 +1,6 @@
 pub mod Questions
 pub mod Fitting
+pub mod Slots
+pub mod Filling
+pub mod Strides
+pub mod Unfit

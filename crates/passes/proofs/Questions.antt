@@ -19,7 +19,7 @@ use Rattle.passes.specs.Calls.{set_bind_group, set_immediates, set_render_pipeli
 
 -- ---- questions, one behind the other
 
-some≢none : {A : Type 0} (x : A) → Some x ≡ None → ⊥
+pub some≢none : {A : Type 0} (x : A) → Some x ≡ None → ⊥
 some≢none x e = true≢false (ap is_some e)
 
 pub before_none : (a b : Option Fault) → before a b ≡ None → (a ≡ None) × (b ≡ None)
@@ -33,6 +33,10 @@ unless_none false f e = absurd (some≢none f e)
 pub fault_none : (n : Number) (o : Option ℕ) → fault_at n o ≡ None → o ≡ None
 fault_none n None e = refl
 fault_none n (Some i) e = absurd (some≢none (fault n i) e)
+
+-- a fault by its number and its place
+pub fault_is : (f : Fault) (n : Number) (p : ℕ) → (f.number ≡ n) × (f.place ≡ p) → f ≡ fault n p
+fault_is f n p e = λ i. record { number = e.0 i; place = e.1 i }
 
 -- ---- equal layouts
 

@@ -1,5 +1,5 @@
 -- The account of a pass: what the accepted calls since its opening come to.
-use Rattle.std.specs.Prelude.{ℕ, zero, suc, ◌+◌, ◌-◌, Bool, true, false, cond, not, ◌&&◌, ◌||◌, List, [], ◌∷◌, map, length, Some, None, Option, ◌==◌, nat_lt, slice_index}
+use Rattle.std.specs.Prelude.{ℕ, zero, suc, ◌+◌, ◌-◌, Bool, true, false, cond, not, ◌&&◌, ◌||◌, List, [], ◌∷◌, map, length, Some, None, Option, ◌==◌, nat_lt, slice_index, slice_index_or}
 use Rattle.command_list.specs.declared.command.Half.{Half}
 use Rattle.device.specs.Devices.{VertexView, update}
 use Rattle.layouts.specs.declared.info.PipelineLayoutSpecialConstants.{PipelineLayoutSpecialConstants}
@@ -43,14 +43,14 @@ pub record Account : Type 0 where
 abbrev pub no_view : VertexView
 no_view = record { address = 0; size = 0; stride = 0 }
 
+abbrev pub nothing_bound : Bound
+nothing_bound = record { layout = None; elements = λ k. Empty; immediates = λ w. 0; touched = λ k. false }
+
+abbrev pub no_views : Views
+no_views = record { views = λ i. no_view; touched = λ i. false }
+
 abbrev pub opened : Half → Bool → Account
-opened h labelled = record {
-  half = h;
-  labelled = labelled;
-  pipeline = None;
-  roots = record { layout = None; elements = λ k. Empty; immediates = λ w. 0; touched = λ k. false };
-  vertices = record { views = λ i. no_view; touched = λ i. false };
-}
+opened h labelled = record { half = h; labelled = labelled; pipeline = None; roots = nothing_bound; vertices = no_views }
 
 -- ---- root slots
 
@@ -184,6 +184,14 @@ strided f v = record {
   views = λ i. record { address = (v.views i).address; size = (v.views i).size; stride = stride_or (f i) (v.views i).stride };
   touched = λ i. restrides (f i) (v.views i) || v.touched i;
 }
+
+-- a stride for one slot
+abbrev pub only_at : ℕ → Option ℕ → ℕ → Option ℕ
+only_at i o k = cond (k == i) o None
+
+-- the strides of 16 slots
+abbrev pub strides_of : List (Option ℕ) → ℕ → Option ℕ
+strides_of ss i = cond (nat_lt i 16) (slice_index_or ss i None) None
 
 abbrev pub views_untouched : Views → Views
 views_untouched v = record { views = v.views; touched = λ i. false }

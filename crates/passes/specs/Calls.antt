@@ -1,5 +1,5 @@
 -- The calls of a pass: what each asks, records, leaves and touches.
-use Rattle.std.specs.Prelude.{ℕ, ◌+◌, ◌/◌, ◌%◌, ◌^◌, Bool, true, false, cond, not, ◌&&◌, ◌||◌, List, [], ◌∷◌, ◌++◌, length, Some, None, Option, ◌==◌, nat_le, nat_lt, slice_index_or}
+use Rattle.std.specs.Prelude.{ℕ, ◌+◌, ◌/◌, ◌%◌, ◌^◌, Bool, true, false, cond, not, ◌&&◌, ◌||◌, List, [], ◌∷◌, ◌++◌, length, Some, None, Option, ◌==◌, nat_le, nat_lt}
 use Rattle.command_list.specs.declared.command.Half.{Half}
 use Rattle.command_list.specs.declared.command.Half.TheVariants.{Graphics, Compute}
 use Rattle.command_list.specs.declared.fault.Fault.{Fault}
@@ -20,7 +20,7 @@ use Rattle.bindings.specs.Constants.{constants}
 use Rattle.bindings.specs.Bindings.{address_of, size_of}
 use Rattle.passes.specs.declared.element.RootElement.{RootElement}
 use Rattle.passes.specs.declared.element.RootElement.TheVariants.{Immediates}
-use Rattle.passes.specs.Account.{Bound, Views, Pipeline, Account, filled, filled_from, switched, switch_touches, is_current, overwritten, with_immediates, group_elements, zeros, constants_at, constants_touch, current_special, own_slot, emptied, untouched, rebased, strided, restrides, views_untouched, unfit}
+use Rattle.passes.specs.Account.{Bound, Views, Pipeline, Account, filled, filled_from, switched, switch_touches, is_current, overwritten, with_immediates, group_elements, zeros, constants_at, constants_touch, current_special, own_slot, emptied, untouched, rebased, strided, restrides, strides_of, views_untouched, unfit}
 use Rattle.passes.specs.Flush.{flushed}
 
 -- ---- setting
@@ -70,7 +70,7 @@ set_roots (set_vertex_buffer i x) b = b
 
 -- the stride that a pipeline gives a vertex slot, if it does
 abbrev pub stride_at : RenderPipeline → ℕ → Option ℕ
-stride_at p i = cond (nat_lt i 16) (slice_index_or p.vertex_strides i None) None
+stride_at p i = strides_of p.vertex_strides i
 
 abbrev pub set_vertices : SetCall → Views → Views
 set_vertices (set_bind_group l i t bs os) v = v
@@ -252,6 +252,9 @@ words_fit at n = at % 4 == 0 && nat_le (at / 4 + n) 32
 abbrev pub binding_fits : BufferBinding → Bool
 binding_fits x = nat_lt (address_of x) (2 ^ 64) && (nat_le x.offset x.buffer.size && nat_lt (size_of x) (2 ^ 32))
 
+abbrev pub asks_pipeline : ℕ → PipelineLayout → Option PipelineLayout → Option Fault
+asks_pipeline handle l current = before (unless (is_handle handle) (fault number.Absent 0)) (asks_layout l current)
+
 abbrev pub asks_set : SetCall → Option PipelineLayout → Option Fault
 asks_set (set_bind_group l i t bs os) current =
     before (unless (nat_lt i 8) (fault number.Range 0))
@@ -263,8 +266,8 @@ asks_set (set_immediates l at ws) current =
     before (unless (words_fit at (length ws)) (fault number.Range 0))
     (before (unless (is_there l.immediates_info) (fault number.Absent 0))
     (asks_layout l current))
-asks_set (set_render_pipeline p) current = before (unless (is_handle p.handle) (fault number.Absent 0)) (asks_layout p.layout current)
-asks_set (set_compute_pipeline p) current = before (unless (is_handle p.handle) (fault number.Absent 0)) (asks_layout p.layout current)
+asks_set (set_render_pipeline p) current = asks_pipeline p.handle p.layout current
+asks_set (set_compute_pipeline p) current = asks_pipeline p.handle p.layout current
 asks_set (set_vertex_buffer i x) current =
     before (unless (nat_lt i 16) (fault number.Range 0)) (unless (binding_fits x) (fault number.Extent 0))
 

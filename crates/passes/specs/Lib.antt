@@ -1,3 +1,4 @@
 pub mod Account
 pub mod Flush
 pub mod Calls
+pub mod State

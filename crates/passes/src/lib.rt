@@ -2,3 +2,6 @@
 #![tactic(auto)]
 
 pub mod element;
+pub mod roots;
+pub mod state;
+pub mod vertices;

@@ -1,0 +1,185 @@
+// What is bound at the root slots.
+ghost use Rattle.std.specs.Prelude.{◌≡◌, ℕ, ◌+◌, ◌<◌, ◌≤◌, length, map, Some, None};
+ghost use Rattle.layouts.specs.Owners.{first_uniform};
+ghost use Rattle.passes.specs.declared.element.RootElement.TheVariants.{DynamicUniformBuffer};
+ghost use Rattle.passes.specs.Account.{nothing_bound, filled, filled_from, renewed, switched, is_current, group_elements, constants_at, current_special, own_slot, emptied, untouched, unfit};
+ghost use Rattle.passes.specs.Calls.{addresses, too_far, supplied, asks_layout, fault_at};
+ghost use Rattle.command_list.specs.declared.fault.Number.TheVariants as number;
+ghost use Rattle.passes.specs.State.{bound_of, fault_of};
+
+use crate::element::RootElement;
+use bindings::constants::SpecialConstants;
+use command_list::fault::{Fault, Number};
+use layouts::info::{BindGroupInfo, ImmediatesInfo};
+use layouts::layout::PipelineLayout;
+use layouts::mask::low;
+
+pub const MAX_ROOT_ELEMENTS: usize = 64;
+
+pub const MAX_IMMEDIATES: usize = 32;
+
+// The layout whose slots draws use, an element for each slot, the immediates' words, and the slots touched since the
+// last mark.
+#[derive(Clone, Copy)]
+pub struct RootState {
+    pub layout: Option<PipelineLayout>,
+    pub root_elements: [RootElement; MAX_ROOT_ELEMENTS],
+    pub immediates: [u32; MAX_IMMEDIATES],
+    pub dirty_root_elements: u64,
+}
+
+impl RootState {
+    pub fn new() -> RootState
+        ensures { bound_of result ≡ nothing_bound }
+    {
+        RootState {
+            layout: None,
+            root_elements: [RootElement::Empty; MAX_ROOT_ELEMENTS],
+            immediates: [0; MAX_IMMEDIATES],
+            dirty_root_elements: 0,
+        }
+    }
+
+    // An element for a slot, which is touched.
+    pub(crate) fn fill(&mut self, slot: u32, element: RootElement)
+        requires { slot < 64 }
+        ensures { bound_of self.new ≡ filled slot element (bound_of self.old) }
+    {
+        self.root_elements[slot as usize] = element;
+        self.dirty_root_elements |= 1 << slot;
+    }
+
+    // A layout becomes current: its special element is three zeros, and its slots are touched, and no others.
+    pub(crate) fn reset_signature(&mut self, layout: &PipelineLayout)
+        ensures { bound_of self.new ≡ renewed layout.now (bound_of self.old) }
+    {
+        if let Some(special) = layout.special() {
+            self.root_elements[special.root_index as usize] =
+                RootElement::SpecialConstants(SpecialConstants::from_dispatch(0, 0, 0));
+        }
+        self.layout = Some(*layout);
+        self.dirty_root_elements = low(u64::from(layout.total()));
+    }
+
+    // The switch to a layout with another signature than the current one's.
+    pub(crate) fn switch_to(&mut self, layout: &PipelineLayout)
+        ensures { bound_of self.new ≡ switched layout.now (bound_of self.old) }
+    {
+        if !self.is_current(layout.signature()) {
+            self.reset_signature(layout);
+        }
+    }
+
+    // Whether the current layout has the signature.
+    pub fn is_current(&self, signature: u32) -> bool
+        ensures { result ≡ is_current signature self.now.layout }
+    {
+        self.layout
+            .is_some_and(|layout| signature == layout.signature())
+    }
+
+    // A layout with the current signature has to be the current one.
+    pub fn check_layout(&self, layout: &PipelineLayout) -> Result<(), Fault>
+        ensures { fault_of result ≡ asks_layout layout.now self.now.layout }
+    {
+        let agrees = self.layout.is_none_or(|current| {
+            layout.signature() != current.signature() || *layout == current
+        });
+        if agrees { Ok(()) } else { Err(Number::Layout.at(0)) }
+    }
+
+    // Uniforms for the slots from one of them on.
+    fn fill_uniforms(&mut self, first: u32, bases: &[u64], offsets: &[u32])
+        requires same { length bases.now ≡ length offsets.now }
+        requires near { too_far 0 (addresses bases.now offsets.now) ≡ None }
+        requires within { (k : ℕ) → first ≤ k → k < first + length bases.now → k < 64 }
+        ensures { bound_of self.new ≡ filled_from first (map DynamicUniformBuffer (addresses bases.now offsets.now)) (bound_of self.old) }
+    {
+        let mut slot = first;
+        for (base, offset) in bases.iter().zip(offsets.iter()) {
+            self.fill(slot, RootElement::DynamicUniformBuffer(*base + u64::from(*offset)));
+            slot += 1;
+        }
+    }
+
+    // A group's table, if it has one, and its uniforms.
+    pub(crate) fn fill_group(&mut self, info: BindGroupInfo, table: u64, bases: &[u64], offsets: &[u32])
+        requires same { length bases.now ≡ length offsets.now }
+        requires near { too_far 0 (addresses bases.now offsets.now) ≡ None }
+        requires within { (k : ℕ) → info.base_root_index ≤ k → k < first_uniform info + length bases.now → k < 64 }
+        ensures { bound_of self.new ≡ filled_from info.base_root_index (group_elements info.table table (addresses bases.now offsets.now)) (bound_of self.old) }
+    {
+        let first = info.base_root_index;
+        if info.table {
+            self.fill(first, RootElement::DescriptorTable(table));
+            self.fill_uniforms(first + 1, bases, offsets);
+        } else {
+            self.fill_uniforms(first, bases, offsets);
+        }
+    }
+
+    // Words of immediates, from one of them on, and the slot that they are written to.
+    pub(crate) fn supply(&mut self, info: ImmediatesInfo, at: usize, words: &[u32])
+        requires slot { info.root_index < 64 }
+        requires within { at + length words.now ≤ 32 }
+        ensures { bound_of self.new ≡ supplied (Some info) at words.now (bound_of self.old) }
+    {
+        self.immediates[at..at + words.len()].copy_from_slice(words);
+        self.fill(info.root_index, RootElement::Immediates);
+    }
+
+    // The special constants of the next draw, which touch their slot only if they differ from those before.
+    pub fn set_constants(&mut self, constants: SpecialConstants)
+        ensures { bound_of self.new ≡ constants_at (current_special self.old.layout) constants (bound_of self.old) }
+    {
+        if let Some(slot) = self.special_slot() {
+            if !self.root_elements[slot as usize].is_constants(constants) {
+                self.fill(slot, RootElement::SpecialConstants(constants));
+            }
+        }
+    }
+
+    // The special slot of the current layout.
+    pub fn special_slot(&self) -> Option<u32>
+        ensures { result ≡ current_special self.now.layout }
+    {
+        Some(self.layout?.special()?.root_index)
+    }
+
+    // The special slot of an own indirect signature of the current layout.
+    pub fn own_slot(&self) -> Option<u32>
+        ensures { result ≡ own_slot self.now.layout }
+    {
+        let special = self.layout?.special()?;
+        special.own_signature.then_some(special.root_index)
+    }
+
+    // Nothing is touched any more.
+    pub fn settle(&mut self)
+        ensures { bound_of self.new ≡ untouched (bound_of self.old) }
+    {
+        self.dirty_root_elements = 0;
+    }
+
+    // Nothing is known of a slot any more.
+    pub fn forget(&mut self, slot: Option<u32>)
+        requires { (i : ℕ) → slot ≡ Some i → i < 64 }
+        ensures { bound_of self.new ≡ emptied slot (bound_of self.old) }
+    {
+        if let Some(slot) = slot {
+            self.root_elements[slot as usize] = RootElement::Empty;
+        }
+    }
+
+    // Every slot of a layout but the special one has an element of its owner's kind. Refused: the lowest that has not.
+    pub(crate) fn check_elements(&self, layout: &PipelineLayout) -> Result<(), Fault>
+        ensures { fault_of result ≡ fault_at number.Unfit (unfit layout.now (bound_of self.now).elements 0 layout.now.total_root_elements) }
+    {
+        for slot in 0..layout.total() {
+            if !self.root_elements[slot as usize].fits(layout.owner(slot)) {
+                return Err(Number::Unfit.at(slot as usize));
+            }
+        }
+        Ok(())
+    }
+}
