@@ -1,5 +1,6 @@
 -- Arrays and masks as functions of a slot.
-use Rattle.std.proofs.Common.{◌≡◌, ℕ, ◌*◌, ◌%◌, ◌^◌, ◌<◌, Bool, true, false, ◌+◌, ◌≤◌, List, length, get_or, set, replicate, bit_or, ap, ◌∙◌, arith}
+use Rattle.std.proofs.Common.{◌≡◌, ℕ, ◌*◌, ◌%◌, ◌^◌, ◌<◌, true, false, ◌+◌, ◌≤◌, List, length, get_or, set, replicate, bit_or, cond, sym, ap, ◌∙◌, ⊎_elim, arith}
+use Rattle.std.proofs.lemmas.Bool.{cases_eq, eq-eqb, ne_eqb}
 use borrow.Rule.Slice.PartMut.{put_mid}
 use Rattle.std.proofs.lemmas.Nat.{one_shl}
 use Rattle.std.proofs.lemmas.Grind.{common_steps}
@@ -14,9 +15,9 @@ read_set g l i x d h = grind (arith, common_steps)
 pub read_replicate : {X : Type 0} (n : ℕ) (x d : X) → x ≡ d → (q : ℕ) → get_or (replicate n x) q d ≡ d
 read_replicate n x d e q = grind (arith, common_steps)
 
--- a mask with one slot more
-pub mask_with : (m i : ℕ) → i < 64 → bit (bit_or m (1 * 2 ^ i % 2 ^ 64)) ≡ update (bit m) i true
-mask_with m i h = let p : (k : ℕ) → bit (bit_or m (1 * 2 ^ i % 2 ^ 64)) k ≡ update (bit m) i true k = λ k. rw (one_shl i 64 h) (in_at m i k) in λ j k. p k j
+-- a mask of w slots with one slot more
+pub mask_with : (w m i : ℕ) → i < w → bit (bit_or m (1 * 2 ^ i % 2 ^ w)) ≡ update (bit m) i true
+mask_with w m i h = let p : (k : ℕ) → bit (bit_or m (1 * 2 ^ i % 2 ^ w)) k ≡ update (bit m) i true k = λ k. rw (one_shl i w h) (in_at m i k) in λ j k. p k j
 
 pub mask_none : bit 0 ≡ (λ k. false)
 mask_none = λ j k. bit_none k j
@@ -25,3 +26,11 @@ mask_none = λ j k. bit_none k j
 pub overwritten_lem : (at k : ℕ) (xs ws : List ℕ) (w : ℕ) → k ≡ length ws → at + length ws ≤ length xs
     → get_or (put_mid at k xs ws) w 0 ≡ overwritten at ws (λ w. get_or xs w 0) w
 overwritten_lem at k xs ws w e h = grind (arith, common_steps)
+
+-- what stood at a slot is put back
+pub update_self : {X : Type 0} (f : ℕ → X) (i : ℕ) → update f i (f i) ≡ f
+update_self f i = λ j k. ⊎_elim (λ e. ap (λ b. cond b (f i) (f k)) (eq-eqb k i e) ∙ ap f (sym e)) (λ e. ap (λ b. cond b (f i) (f k)) (ne_eqb k i e)) (cases_eq k i) j
+
+pub update_back : {X : Type 0} (f : ℕ → X) (i : ℕ) (x : X) → update (update f i x) i (f i) ≡ f
+update_back f i x = (λ j k. ⊎_elim (λ e. ap (λ b. cond b (f i) (cond b x (f k))) (eq-eqb k i e) ∙ sym (ap (λ b. cond b (f i) (f k)) (eq-eqb k i e)))
+    (λ e. ap (λ b. cond b (f i) (cond b x (f k))) (ne_eqb k i e) ∙ sym (ap (λ b. cond b (f i) (f k)) (ne_eqb k i e))) (cases_eq k i) j) ∙ update_self f i

@@ -1,5 +1,5 @@
 -- Strides given to vertex slots, one after the other.
-use Rattle.std.proofs.Common.{◌≡◌, ℕ, ◌+◌, ◌<◌, ◌≤◌, Bool, true, false, cond, not, ◌||◌, ltb, eqb, Some, None, Option, sym, refl, ap, ap₂, ◌∙◌, ⊎_elim, arith}
+use Rattle.std.proofs.Common.{◌≡◌, ℕ, ◌+◌, true, cond, ◌||◌, ltb, eqb, Some, None, Option, sym, ap, ◌∙◌, ⊎_elim, arith}
 use Rattle.std.proofs.lemmas.Bool.{cases_eq, cases_lt, ne_eqb, eq-eqb, lt-ltb, le-ltb}
 use Rattle.device.specs.Devices.{VertexView}
 use Rattle.passes.specs.Account.{Views, attached, strided, restrides, stride_or, only_at}
@@ -14,15 +14,15 @@ strided_one k s v e = λ j. record { views = λ i. view i j; touched = λ i. mar
     view : (i : ℕ) → cond (eqb i k) (with_stride (v.views k) s) (v.views i) ≡ with_stride (v.views i) (stride_or (cond (eqb i k) (Some s) None) (v.views i).stride)
     view i = ⊎_elim
         (λ q. ap (λ b. cond b (with_stride (v.views k) s) (v.views i)) (eq-eqb i k q) ∙ ap (λ n. with_stride (v.views n) s) (sym q)
-          ∙ sym (ap (λ b. with_stride (v.views i) (stride_or (cond b (Some s) None) (v.views i).stride)) (eq-eqb i k q)))
+        ∙ sym (ap (λ b. with_stride (v.views i) (stride_or (cond b (Some s) None) (v.views i).stride)) (eq-eqb i k q)))
         (λ q. ap (λ b. cond b (with_stride (v.views k) s) (v.views i)) (ne_eqb i k q)
-          ∙ sym (ap (λ b. with_stride (v.views i) (stride_or (cond b (Some s) None) (v.views i).stride)) (ne_eqb i k q)))
+        ∙ sym (ap (λ b. with_stride (v.views i) (stride_or (cond b (Some s) None) (v.views i).stride)) (ne_eqb i k q)))
         (cases_eq i k)
 
     mark : (i : ℕ) → cond (eqb i k) true (v.touched i) ≡ (restrides (cond (eqb i k) (Some s) None) (v.views i) || v.touched i)
     mark i = ⊎_elim
         (λ q. ap (λ b. cond b true (v.touched i)) (eq-eqb i k q)
-          ∙ sym (ap (λ b. restrides (cond b (Some s) None) (v.views i) || v.touched i) (eq-eqb i k q) ∙ ap (λ b. b || v.touched i) (ap (λ n. restrides (Some s) (v.views n)) q ∙ e)))
+        ∙ sym (ap (λ b. restrides (cond b (Some s) None) (v.views i) || v.touched i) (eq-eqb i k q) ∙ ap (λ b. b || v.touched i) (ap (λ n. restrides (Some s) (v.views n)) q ∙ e)))
         (λ q. ap (λ b. cond b true (v.touched i)) (ne_eqb i k q) ∙ sym (ap (λ b. restrides (cond b (Some s) None) (v.views i) || v.touched i) (ne_eqb i k q)))
         (cases_eq i k)
 
@@ -37,19 +37,19 @@ module _ (g h : ℕ → Option ℕ) (k : ℕ) (o : Option ℕ) (free : g k ≡ N
       view : (i : ℕ) → with_stride (v.views i) (stride_or (cond (eqb i k) o None) (stride_or (g i) (v.views i).stride)) ≡ with_stride (v.views i) (stride_or (h i) (v.views i).stride)
       view i = ⊎_elim
           (λ q. ap (λ b. with_stride (v.views i) (stride_or (cond b o None) (stride_or (g i) (v.views i).stride))) (eq-eqb i k q)
-            ∙ ap (λ b. with_stride (v.views i) (stride_or o (stride_or b (v.views i).stride))) (ap g q ∙ free)
-            ∙ ap (λ b. with_stride (v.views i) (stride_or b (v.views i).stride)) (sym (ap h q ∙ here)))
+          ∙ ap (λ b. with_stride (v.views i) (stride_or o (stride_or b (v.views i).stride))) (ap g q ∙ free)
+          ∙ ap (λ b. with_stride (v.views i) (stride_or b (v.views i).stride)) (sym (ap h q ∙ here)))
           (λ q. ap (λ b. with_stride (v.views i) (stride_or (cond b o None) (stride_or (g i) (v.views i).stride))) (ne_eqb i k q)
-            ∙ ap (λ b. with_stride (v.views i) (stride_or b (v.views i).stride)) (sym (there i q)))
+          ∙ ap (λ b. with_stride (v.views i) (stride_or b (v.views i).stride)) (sym (there i q)))
           (cases_eq i k)
 
       mark : (i : ℕ) → (restrides (cond (eqb i k) o None) (with_stride (v.views i) (stride_or (g i) (v.views i).stride)) || (restrides (g i) (v.views i) || v.touched i)) ≡ (restrides (h i) (v.views i) || v.touched i)
       mark i = ⊎_elim
           (λ q. ap (λ b. restrides (cond b o None) (with_stride (v.views i) (stride_or (g i) (v.views i).stride)) || (restrides (g i) (v.views i) || v.touched i)) (eq-eqb i k q)
-            ∙ ap (λ b. restrides o (with_stride (v.views i) (stride_or b (v.views i).stride)) || (restrides b (v.views i) || v.touched i)) (ap g q ∙ free)
-            ∙ ap (λ b. restrides b (v.views i) || v.touched i) (sym (ap h q ∙ here)))
+          ∙ ap (λ b. restrides o (with_stride (v.views i) (stride_or b (v.views i).stride)) || (restrides b (v.views i) || v.touched i)) (ap g q ∙ free)
+          ∙ ap (λ b. restrides b (v.views i) || v.touched i) (sym (ap h q ∙ here)))
           (λ q. ap (λ b. restrides (cond b o None) (with_stride (v.views i) (stride_or (g i) (v.views i).stride)) || (restrides (g i) (v.views i) || v.touched i)) (ne_eqb i k q)
-            ∙ ap (λ b. restrides b (v.views i) || v.touched i) (sym (there i q)))
+          ∙ ap (λ b. restrides b (v.views i) || v.touched i) (sym (there i q)))
           (cases_eq i k)
 
 -- the strides of the slots below n
@@ -60,9 +60,9 @@ pub strided_next : (f : ℕ → Option ℕ) (n : ℕ) (o : Option ℕ) (v w x : 
 strided_next f n o v w x q p r =
     r ∙ ap (strided (only_at n o)) p
     ∙ strided_more (below n f) (below (n + 1) f) n o
-      (ap (λ b. cond b (f n) None) (le-ltb n n (omega arith)))
-      (ap (λ b. cond b (f n) None) (lt-ltb n (n + 1) (omega arith)) ∙ sym q)
-      (λ i e. ⊎_elim
-        (λ l. ap (λ b. cond b (f i) None) (lt-ltb i (n + 1) (omega arith)) ∙ sym (ap (λ b. cond b (f i) None) (lt-ltb i n l)))
-        (λ l. ap (λ b. cond b (f i) None) (le-ltb i (n + 1) (omega arith)) ∙ sym (ap (λ b. cond b (f i) None) (le-ltb i n l)))
-        (cases_lt i n)) v
+    (ap (λ b. cond b (f n) None) (le-ltb n n (omega arith)))
+    (ap (λ b. cond b (f n) None) (lt-ltb n (n + 1) (omega arith)) ∙ sym q)
+    (λ i e. ⊎_elim
+    (λ l. ap (λ b. cond b (f i) None) (lt-ltb i (n + 1) (omega arith)) ∙ sym (ap (λ b. cond b (f i) None) (lt-ltb i n l)))
+    (λ l. ap (λ b. cond b (f i) None) (le-ltb i (n + 1) (omega arith)) ∙ sym (ap (λ b. cond b (f i) None) (le-ltb i n l)))
+    (cases_lt i n)) v

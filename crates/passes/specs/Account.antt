@@ -196,6 +196,11 @@ strides_of ss i = cond (nat_lt i 16) (slice_index_or ss i None) None
 abbrev pub views_untouched : Views → Views
 views_untouched v = record { views = v.views; touched = λ i. false }
 
+-- the slot of an element, if there is one, is below 64
+abbrev pub slot_below : Option (ℕ × RootElement) → Bool
+slot_below None = true
+slot_below (Some p) = nat_lt p.0 64
+
 -- ---- a slot's owner
 
 -- an element is of its owner's kind; at the special slot any is

@@ -1,15 +1,17 @@
 -- What the record of a pass says.
-use Rattle.std.specs.Prelude.{◌≡◌, ℕ, Bool, false, List, Some, None, Ok, Err, Option, Result, option_map, slice_index_or}
+use Rattle.std.specs.Prelude.{◌≡◌, ℕ, Some, None, Ok, Err, Option, Result, option_map, slice_index_or}
 use Rattle.command_list.specs.declared.fault.Fault.{Fault}
-use Rattle.device.specs.Devices.{VertexView}
+use Rattle.device.specs.Devices.{VertexView, update}
 use Rattle.layouts.specs.Bits.{bit}
 use Rattle.passes.specs.declared.element.RootElement.TheVariants.{Empty}
 use Rattle.passes.specs.declared.roots.RootState.{RootState}
+use Rattle.passes.specs.declared.replaced.Replaced.{Replaced}
+use Rattle.passes.specs.declared.element.RootElement.{RootElement}
 use Rattle.passes.specs.declared.vertices.VertexBufferView.{VertexBufferView}
 use Rattle.passes.specs.declared.vertices.VertexState.{VertexState}
 use Rattle.passes.specs.declared.state.PassPipeline.{PassPipeline}
 use Rattle.passes.specs.declared.state.PassState.{PassState}
-use Rattle.passes.specs.Account.{Bound, Views, Pipeline, Account, no_view}
+use Rattle.passes.specs.Account.{Bound, Views, Pipeline, Account}
 use Rattle.passes.specs.Calls.{SetCall, asks_set, after_set}
 
 -- what is bound at the root slots: a slot past the last has nothing
@@ -42,6 +44,14 @@ account p = record {
   roots = bound_of p.roots;
   vertices = views_of p.vertices;
 }
+
+abbrev pub put_back : Option (ℕ × RootElement) → (ℕ → RootElement) → ℕ → RootElement
+put_back None f = f
+put_back (Some p) f = update f p.0 p.1
+
+-- what a draw's constants replaced is put back
+abbrev pub restored : Replaced → Bound → Bound
+restored r b = record { layout = b.layout; elements = put_back r.element b.elements; immediates = b.immediates; touched = bit r.dirty }
 
 -- the fault of an answer, if it is a refusal
 abbrev pub fault_of : {X : Type 0} → Result X Fault → Option Fault

@@ -2,6 +2,7 @@
 #![tactic(auto)]
 
 pub mod element;
+pub mod replaced;
 pub mod roots;
 pub mod state;
 pub mod vertices;

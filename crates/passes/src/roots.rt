@@ -3,11 +3,12 @@ ghost use Rattle.std.specs.Prelude.{◌≡◌, ℕ, ◌+◌, ◌<◌, ◌≤◌,
 ghost use Rattle.layouts.specs.Owners.{first_uniform};
 ghost use Rattle.passes.specs.declared.element.RootElement.TheVariants.{DynamicUniformBuffer};
 ghost use Rattle.passes.specs.Account.{nothing_bound, filled, filled_from, renewed, switched, is_current, group_elements, constants_at, current_special, own_slot, emptied, untouched, unfit};
-ghost use Rattle.passes.specs.Calls.{addresses, too_far, supplied, asks_layout, fault_at};
+ghost use Rattle.passes.specs.Calls.{addresses, too_far, supplied, asks_layout, fault_at, prepared_by, wiped_slot};
 ghost use Rattle.command_list.specs.declared.fault.Number.TheVariants as number;
-ghost use Rattle.passes.specs.State.{bound_of, fault_of};
+ghost use Rattle.passes.specs.State.{bound_of, fault_of, restored};
 
 use crate::element::RootElement;
+use crate::replaced::Replaced;
 use bindings::constants::SpecialConstants;
 use command_list::fault::{Fault, Number};
 use layouts::info::{BindGroupInfo, ImmediatesInfo};
@@ -29,7 +30,7 @@ pub struct RootState {
 }
 
 impl RootState {
-    pub fn new() -> RootState
+    pub(crate) fn new() -> RootState
         ensures { bound_of result ≡ nothing_bound }
     {
         RootState {
@@ -54,8 +55,9 @@ impl RootState {
         ensures { bound_of self.new ≡ renewed layout.now (bound_of self.old) }
     {
         if let Some(special) = layout.special() {
-            self.root_elements[special.root_index as usize] =
-                RootElement::SpecialConstants(SpecialConstants::from_dispatch(0, 0, 0));
+            self.root_elements[special.root_index as usize] = RootElement::SpecialConstants(
+                SpecialConstants::from_dispatch(0, 0, 0),
+            );
         }
         self.layout = Some(*layout);
         self.dirty_root_elements = low(u64::from(layout.total()));
@@ -71,7 +73,7 @@ impl RootState {
     }
 
     // Whether the current layout has the signature.
-    pub fn is_current(&self, signature: u32) -> bool
+    pub(crate) fn is_current(&self, signature: u32) -> bool
         ensures { result ≡ is_current signature self.now.layout }
     {
         self.layout
@@ -79,13 +81,17 @@ impl RootState {
     }
 
     // A layout with the current signature has to be the current one.
-    pub fn check_layout(&self, layout: &PipelineLayout) -> Result<(), Fault>
+    pub(crate) fn check_layout(&self, layout: &PipelineLayout) -> Result<(), Fault>
         ensures { fault_of result ≡ asks_layout layout.now self.now.layout }
     {
         let agrees = self.layout.is_none_or(|current| {
             layout.signature() != current.signature() || *layout == current
         });
-        if agrees { Ok(()) } else { Err(Number::Layout.at(0)) }
+        if agrees {
+            Ok(())
+        } else {
+            Err(Number::Layout.at(0))
+        }
     }
 
     // Uniforms for the slots from one of them on.
@@ -97,13 +103,22 @@ impl RootState {
     {
         let mut slot = first;
         for (base, offset) in bases.iter().zip(offsets.iter()) {
-            self.fill(slot, RootElement::DynamicUniformBuffer(*base + u64::from(*offset)));
+            self.fill(
+                slot,
+                RootElement::DynamicUniformBuffer(*base + u64::from(*offset)),
+            );
             slot += 1;
         }
     }
 
     // A group's table, if it has one, and its uniforms.
-    pub(crate) fn fill_group(&mut self, info: BindGroupInfo, table: u64, bases: &[u64], offsets: &[u32])
+    pub(crate) fn fill_group(
+        &mut self,
+        info: BindGroupInfo,
+        table: u64,
+        bases: &[u64],
+        offsets: &[u32],
+    )
         requires same { length bases.now ≡ length offsets.now }
         requires near { too_far 0 (addresses bases.now offsets.now) ≡ None }
         requires within { (k : ℕ) → info.base_root_index ≤ k → k < first_uniform info + length bases.now → k < 64 }
@@ -128,41 +143,53 @@ impl RootState {
         self.fill(info.root_index, RootElement::Immediates);
     }
 
-    // The special constants of the next draw, which touch their slot only if they differ from those before.
-    pub fn set_constants(&mut self, constants: SpecialConstants)
-        ensures { bound_of self.new ≡ constants_at (current_special self.old.layout) constants (bound_of self.old) }
+    // The special constants of the next draw, which touch their slot only if they differ from those before. What they
+    // replaced is handed back, so that a refused draw leaves no trace.
+    fn set_constants(&mut self, constants: SpecialConstants) -> Replaced
+        ensures set { bound_of self.new ≡ constants_at (current_special self.old.layout) constants (bound_of self.old) }
+        ensures was { restored result (bound_of self.new) ≡ bound_of self.old }
     {
-        if let Some(slot) = self.special_slot() {
-            if !self.root_elements[slot as usize].is_constants(constants) {
-                self.fill(slot, RootElement::SpecialConstants(constants));
-            }
+        let dirty = self.dirty_root_elements;
+        let Some(slot) = self.special_slot() else {
+            return Replaced {
+                element: None,
+                dirty,
+            };
+        };
+        let old = self.root_elements[slot as usize];
+        if !old.is_constants(constants) {
+            self.fill(slot, RootElement::SpecialConstants(constants));
+        }
+        Replaced {
+            element: Some((slot, old)),
+            dirty,
         }
     }
 
     // The special slot of the current layout.
-    pub fn special_slot(&self) -> Option<u32>
+    fn special_slot(&self) -> Option<u32>
         ensures { result ≡ current_special self.now.layout }
     {
         Some(self.layout?.special()?.root_index)
     }
 
     // The special slot of an own indirect signature of the current layout.
-    pub fn own_slot(&self) -> Option<u32>
+    pub(crate) fn own_slot(&self) -> Option<u8>
         ensures { result ≡ own_slot self.now.layout }
     {
         let special = self.layout?.special()?;
-        special.own_signature.then_some(special.root_index)
+        special.own_signature.then_some(special.root_index as u8)
     }
 
     // Nothing is touched any more.
-    pub fn settle(&mut self)
+    fn settle(&mut self)
         ensures { bound_of self.new ≡ untouched (bound_of self.old) }
     {
         self.dirty_root_elements = 0;
     }
 
     // Nothing is known of a slot any more.
-    pub fn forget(&mut self, slot: Option<u32>)
+    fn forget(&mut self, slot: Option<u8>)
         requires { (i : ℕ) → slot ≡ Some i → i < 64 }
         ensures { bound_of self.new ≡ emptied slot (bound_of self.old) }
     {
@@ -181,5 +208,39 @@ impl RootState {
             }
         }
         Ok(())
+    }
+
+    // The root slots as a draw wants them, of constants of its own or with none.
+    pub(crate) fn prepare(&mut self, own: Option<SpecialConstants>) -> Replaced
+        ensures set { bound_of self.new ≡ prepared_by own (bound_of self.old) }
+        ensures was { restored result (bound_of self.new) ≡ bound_of self.old }
+    {
+        if own.is_none() && self.own_slot().is_some() {
+            return Replaced {
+                element: None,
+                dirty: self.dirty_root_elements,
+            };
+        }
+        self.set_constants(own.unwrap_or(SpecialConstants::from_dispatch(0, 0, 0)))
+    }
+
+    // What a draw's constants replaced is put back.
+    pub(crate) fn restore(&mut self, was: Replaced)
+        ensures { bound_of self.new ≡ restored was (bound_of self.old) }
+    {
+        if let Some((slot, element)) = was.element {
+            self.root_elements[slot as usize] = element;
+        }
+        self.dirty_root_elements = was.dirty;
+    }
+
+    // Nothing is touched any more, and nothing is known of what an indirect call with an own signature wiped.
+    pub(crate) fn mark(&mut self, own: Option<SpecialConstants>)
+        ensures { bound_of self.new ≡ untouched (emptied (wiped_slot own self.old.layout) (bound_of self.old)) }
+    {
+        if own.is_none() {
+            self.forget(self.own_slot());
+        }
+        self.settle();
     }
 }

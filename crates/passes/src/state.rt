@@ -1,13 +1,15 @@
 // The record of a pass.
 ghost use Rattle.std.specs.Prelude.{◌≡◌, ◌&&◌, not, length, option_map};
-ghost use Rattle.passes.specs.Account.{opened, is_current};
-ghost use Rattle.passes.specs.Calls.{set_bind_group, set_immediates, set_render_pipeline, set_compute_pipeline, set_vertex_buffer, after_set, asks_pipeline, is_signed, drawable, fault_at, too_far, addresses};
+ghost use Rattle.passes.specs.Account.{opened, is_current, own_slot, with_roots};
+ghost use Rattle.passes.specs.Calls.{set_bind_group, set_immediates, set_render_pipeline, set_compute_pipeline, set_vertex_buffer, after_set, asks_pipeline, is_signed, drawable, fault_at, too_far, addresses, prepared_by, marked};
 ghost use Rattle.command_list.specs.declared.fault.Number.TheVariants as number;
-ghost use Rattle.passes.specs.State.{bound_of, pipeline_of, account, fault_of, Sets};
+ghost use Rattle.passes.specs.State.{bound_of, pipeline_of, account, fault_of, restored, Sets};
 
+use crate::replaced::Replaced;
 use crate::roots::{MAX_IMMEDIATES, RootState};
 use crate::vertices::{MAX_VERTEX_BUFFERS, VertexState};
 use bindings::binding::BufferBinding;
+use bindings::constants::SpecialConstants;
 use command_list::command::Half;
 use command_list::fault::{Fault, Number};
 use layouts::info::MAX_BIND_GROUPS;
@@ -131,8 +133,7 @@ impl PassState {
             return Err(Number::Range.at(0));
         }
         let resolved = binding.resolve()?;
-        self.vertices
-            .rebase(index, resolved.address, resolved.size);
+        self.vertices.rebase(index, resolved.address, resolved.size);
         Ok(())
     }
 
@@ -187,5 +188,35 @@ impl PassState {
             return Err(Number::Pipeline.at(0));
         }
         self.roots.check_elements(&layout)
+    }
+
+    // The special slot of an own indirect signature of the current layout.
+    pub fn own_slot(&self) -> Option<u8>
+        ensures { result ≡ own_slot self.now.roots.layout }
+    {
+        self.roots.own_slot()
+    }
+
+    // The root slots as a draw wants them: with constants of its own, or for an indirect call with none.
+    pub fn prepare(&mut self, own: Option<SpecialConstants>) -> Replaced
+        ensures set { account self.new ≡ with_roots (prepared_by own (bound_of self.old.roots)) (account self.old) }
+        ensures was { with_roots (restored result (bound_of self.new.roots)) (account self.new) ≡ account self.old }
+    {
+        self.roots.prepare(own)
+    }
+
+    // What a draw's constants replaced is put back.
+    pub fn restore(&mut self, was: Replaced)
+        ensures { account self.new ≡ with_roots (restored was (bound_of self.old.roots)) (account self.old) }
+    {
+        self.roots.restore(was);
+    }
+
+    // A mark: nothing is touched any more, and nothing is known of what an indirect call with an own signature wiped.
+    pub fn mark(&mut self, own: Option<SpecialConstants>)
+        ensures { account self.new ≡ marked own (account self.old) }
+    {
+        self.roots.mark(own);
+        self.vertices.settle();
     }
 }

@@ -16,11 +16,11 @@ pub struct VertexBufferView {
 #[derive(Clone, Copy)]
 pub struct VertexState {
     pub vertex_buffers: [VertexBufferView; MAX_VERTEX_BUFFERS],
-    pub dirty_vertex_buffers: u64,
+    pub dirty_vertex_buffers: u16,
 }
 
 impl VertexState {
-    pub fn new() -> VertexState
+    pub(crate) fn new() -> VertexState
         ensures { views_of result ≡ no_views }
     {
         let none = VertexBufferView {
@@ -69,7 +69,7 @@ impl VertexState {
     }
 
     // Nothing is touched any more.
-    pub fn settle(&mut self)
+    pub(crate) fn settle(&mut self)
         ensures { views_of self.new ≡ views_untouched (views_of self.old) }
     {
         self.dirty_vertex_buffers = 0;

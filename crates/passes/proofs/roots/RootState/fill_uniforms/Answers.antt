@@ -1,6 +1,6 @@
-use Rattle.std.proofs.Common.{◌≡◌, sym, ap, ◌∙◌, subst, ⊎_elim, inl, inr, arith}
+use Rattle.std.proofs.Common.{◌≡◌, ap, ◌∙◌, ⊎_elim, inl, inr, arith}
 use Rattle.passes.specs.State.{bound_of}
-use Rattle.passes.proofs.Filling.{Filling, filling_start, filling_turn, filling_next, filling_done}
+use Rattle.passes.proofs.Filling.{filling_start, filling_turn, filling_next, filling_done}
 use Rattle.passes.proofs.roots.RootState.fill_uniforms.Goals as goal
 
 pub loop-base-init : goal.loop-base-init

@@ -8,5 +8,5 @@ returns c =
     let s = c.args.self.now in
     let k = c.args.slot in
     let views = read_set view_of s.vertex_buffers k (record { address = c.args.address; size = c.args.size; stride = (slice_index_or s.vertex_buffers k no_buffer).stride }) no_buffer (omega (arith, c.requires)) in
-    let touched = mask_with s.dirty_vertex_buffers k (omega (arith, c.requires)) in
+    let touched = mask_with 16 s.dirty_vertex_buffers k (omega (arith, c.requires)) in
     λ i. record { views = views i; touched = touched i }

@@ -12,5 +12,5 @@ returns-then-view-stride c =
     let k = c.args.slot in
     let old = slice_index_or s.vertex_buffers k no_buffer in
     let views = read_set view_of s.vertex_buffers k (record { address = old.address; size = old.size; stride = c.in-Some.stride }) no_buffer (omega (arith, c.requires)) in
-    let touched = mask_with s.dirty_vertex_buffers k (omega (arith, c.requires)) in
+    let touched = mask_with 16 s.dirty_vertex_buffers k (omega (arith, c.requires)) in
     (λ i. record { views = views i; touched = touched i }) ∙ strided_one k c.in-Some.stride (views_of s) (ap not (ne_eqb c.in-Some.stride old.stride (λ e. c.if-view-stride.true (sym e)))) ∙ sym (ap (λ o. strided (only_at k o) (views_of s)) c.in-Some.is)
