@@ -1,1 +1,3 @@
 pub mod Answered
+pub mod Coming
+pub mod Turns

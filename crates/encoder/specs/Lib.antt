@@ -1,2 +1,3 @@
 pub mod Opening
 pub mod Scenes
+pub mod Putting

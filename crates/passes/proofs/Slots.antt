@@ -1,13 +1,15 @@
 -- Arrays and masks as functions of a slot.
-use Rattle.std.proofs.Common.{◌≡◌, ℕ, ◌*◌, ◌%◌, ◌^◌, ◌<◌, true, false, ◌+◌, ◌≤◌, List, length, get_or, set, replicate, bit_or, cond, sym, ap, ◌∙◌, ⊎_elim, arith}
+use Rattle.std.proofs.Common.{◌≡◌, ℕ, zero, suc, ◌∷◌, take, drop, refl, ◌*◌, ◌%◌, ◌^◌, ◌<◌, true, false, ◌+◌, ◌≤◌, List, length, get_or, set, replicate, bit_or, cond, sym, ap, ◌∙◌, ⊎_elim, arith}
 use Rattle.std.proofs.lemmas.Bool.{cases_eq, eq-eqb, ne_eqb}
 use borrow.Rule.Slice.PartMut.{put_mid}
 use Rattle.std.proofs.lemmas.Nat.{one_shl}
+use Rattle.std.proofs.lemmas.List.{drop_more}
 use Rattle.std.proofs.lemmas.Grind.{common_steps}
 use Rattle.layouts.specs.Bits.{bit}
 use Rattle.layouts.proofs.Masks.{in_at, bit_none}
 use Rattle.device.specs.Devices.{update}
 use Rattle.passes.specs.Account.{overwritten}
+use Rattle.passes.specs.Flush.{firsts}
 
 pub read_set : {X Y : Type 0} (g : X → Y) (l : List X) (i : ℕ) (x d : X) → i < length l → (λ q. g (get_or (set l i x) q d)) ≡ update (λ q. g (get_or l q d)) i (g x)
 read_set g l i x d h = grind (arith, common_steps)
@@ -34,3 +36,8 @@ update_self f i = λ j k. ⊎_elim (λ e. ap (λ b. cond b (f i) (f k)) (eq-eqb 
 pub update_back : {X : Type 0} (f : ℕ → X) (i : ℕ) (x : X) → update (update f i x) i (f i) ≡ f
 update_back f i x = (λ j k. ⊎_elim (λ e. ap (λ b. cond b (f i) (cond b x (f k))) (eq-eqb k i e) ∙ sym (ap (λ b. cond b (f i) (f k)) (eq-eqb k i e)))
     (λ e. ap (λ b. cond b (f i) (cond b x (f k))) (ne_eqb k i e) ∙ sym (ap (λ b. cond b (f i) (f k)) (ne_eqb k i e))) (cases_eq k i) j) ∙ update_self f i
+
+-- the first words of an array
+pub firsts_taken : (n w : ℕ) (xs : List ℕ) → w + n ≤ length xs → take n (drop w xs) ≡ firsts (λ k. get_or xs k 0) w n
+firsts_taken zero w xs h = refl
+firsts_taken (suc n) w xs h = ap (take (suc n)) (drop_more xs w 0 (omega arith)) ∙ ap (λ ys. get_or xs w 0 ∷ ys) (firsts_taken n (w + 1) xs (omega arith))

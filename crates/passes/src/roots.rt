@@ -5,6 +5,7 @@ ghost use Rattle.passes.specs.declared.element.RootElement.TheVariants.{DynamicU
 ghost use Rattle.passes.specs.Account.{nothing_bound, filled, filled_from, renewed, switched, is_current, group_elements, constants_at, current_special, own_slot, emptied, untouched, unfit};
 ghost use Rattle.passes.specs.Calls.{addresses, too_far, supplied, asks_layout, fault_at, prepared_by, wiped_slot};
 ghost use Rattle.command_list.specs.declared.fault.Number.TheVariants as number;
+ghost use Rattle.passes.specs.Flush.{firsts, words_used};
 ghost use Rattle.passes.specs.State.{bound_of, fault_of, restored};
 
 use crate::element::RootElement;
@@ -242,5 +243,23 @@ impl RootState {
             self.forget(self.own_slot());
         }
         self.settle();
+    }
+
+    // How many words of immediates the current layout uses.
+    fn words_used(&self) -> u32
+        ensures value { result ≡ words_used self.now.layout }
+        ensures few { result ≤ 32 }
+    {
+        self.layout
+            .and_then(|layout| layout.immediates())
+            .map_or(0, |info| info.size)
+    }
+
+    // These words.
+    pub fn used_immediates(&self) -> &[u32]
+        ensures words { result.now ≡ firsts (bound_of self.now).immediates 0 (words_used self.now.layout) }
+        ensures few { length result.now ≤ 32 }
+    {
+        &self.immediates[..self.words_used() as usize]
     }
 }
