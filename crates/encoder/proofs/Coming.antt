@@ -38,6 +38,11 @@ pub put_recorded : (m : Meaning) (cs : List Command) (r : Result Unit Fault) (n 
 put_recorded m cs (Ok u) n p = p
 put_recorded m cs (Err f) n p = absurd p
 
+-- what was put last ends what was recorded before
+pub put_after : (m n k : Meaning) (cs ds : List Command) (r : Result Unit Fault) → (Recorded n cs k → Recorded m ds k) → Put n cs r k → Put m ds r k
+put_after m n k cs ds (Ok u) f p = f p
+put_after m n k cs ds (Err e) f p = absurd p
+
 -- words of a slot, one after the other
 module _ (h : Half) (k w : ℕ) (xs : List ℕ) (short : w < length xs) where
   pub word_next : word_commands h k w (drop w xs) ≡ (SetRoot32BitConstant h k w (get_or xs w 0) ∷ []) ++ word_commands h k (w + 1) (drop (w + 1) xs)

@@ -1,3 +1,4 @@
 pub mod Answered
 pub mod Coming
 pub mod Turns
+pub mod Flushes

@@ -13,6 +13,7 @@ use device::recorder::Recorder;
 use list_writer::writer::Recordable;
 use passes::element::RootElement;
 use passes::roots::RootState;
+use passes::state::PassState;
 use passes::vertices::VertexState;
 
 // The bytes of a word's record, and of a table's or view's.
@@ -58,7 +59,7 @@ fn put_words<R: Recorder>(
 }
 
 // A table of slots, each with the commands that write it.
-pub(crate) trait Table {
+trait Table {
     ghost commands: { Self → ℕ → List Command };
 
     // How many slots there are.
@@ -100,9 +101,10 @@ impl Table for VertexState {
 }
 
 // The root slots of a half.
+#[derive(Clone, Copy)]
 pub(crate) struct RootTable<'a> {
-    pub(crate) half: Half,
-    pub(crate) roots: &'a RootState,
+    half: Half,
+    roots: &'a RootState,
 }
 
 impl Table for RootTable<'_> {
@@ -193,4 +195,37 @@ fn flush<R: Recorder, T: Table>(recorder: &mut R, table: &T, dirty: u64) -> Resu
         rest ^= 1 << slot;
     }
     Ok(())
+}
+
+// The bytes that the touched slots of a pass take.
+pub(crate) fn pass_size(pass: &PassState) -> usize
+    ensures value { result ≡ sizes (flushed pass.now.kind (bound_of pass.now.roots) (views_of pass.now.vertices)) }
+    ensures small { result ≤ 128 * 288 }
+{
+    let vertices = flush_size(
+        &pass.vertices,
+        u64::from(pass.vertices.dirty_vertex_buffers),
+    );
+    let table = RootTable {
+        half: pass.kind,
+        roots: &pass.roots,
+    };
+    vertices + flush_size(&table, pass.roots.dirty_root_elements)
+}
+
+// The touched slots of a pass are written: vertex slots, then root slots.
+pub(crate) fn flush_pass<R: Recorder>(recorder: &mut R, pass: &PassState) -> Result<(), Fault>
+    requires { sizes (flushed pass.now.kind (bound_of pass.now.roots) (views_of pass.now.vertices)) ≤ (R.Recorder.meaning recorder.old).space }
+    ensures { Put (R.Recorder.meaning recorder.old) (flushed pass.now.kind (bound_of pass.now.roots) (views_of pass.now.vertices)) result (R.Recorder.meaning recorder.new) }
+{
+    flush(
+        recorder,
+        &pass.vertices,
+        u64::from(pass.vertices.dirty_vertex_buffers),
+    )?;
+    let table = RootTable {
+        half: pass.kind,
+        roots: &pass.roots,
+    };
+    flush(recorder, &table, pass.roots.dirty_root_elements)
 }
