@@ -2,3 +2,4 @@ pub mod Answered
 pub mod Coming
 pub mod Turns
 pub mod Flushes
+pub mod Handling

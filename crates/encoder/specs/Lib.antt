@@ -1,3 +1,4 @@
 pub mod Opening
 pub mod Scenes
 pub mod Putting
+pub mod Handled

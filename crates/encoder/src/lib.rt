@@ -2,4 +2,5 @@
 #![tactic(auto)]
 
 pub mod attachment;
+mod draw;
 mod flush;
