@@ -1,23 +1,33 @@
 -- How a call inside a pass is shown to do what it should.
-use Rattle.std.proofs.Common.{◌≡◌, ◌<◌, ◌≤◌, true, false, cond, leb, ◌+◌, List, [], ◌∷◌, ◌++◌, arith, Some, None, Ok, Err, Option, sym, refl, ap, ◌∙◌}
-use Rattle.std.proofs.lemmas.Bool.{true≢false, false≢true, le-leb, lt-leb}
+use Rattle.std.proofs.Common.{◌≡◌, ℕ, ◌<◌, ◌≤◌, subst, Result, true, false, cond, leb, ◌+◌, List, [], ◌∷◌, ◌++◌, arith, Some, None, Ok, Err, Option, sym, refl, ap, ap₂, ◌∙◌, ⊎_elim}
+use Rattle.std.proofs.lemmas.Bool.{cases_lt, true≢false, false≢true, le-leb, lt-leb}
 use Rattle.command_list.specs.declared.fault.Fault.{Fault}
 use Rattle.command_list.specs.declared.fault.Number.TheVariants as number
-use Rattle.command_list.specs.Commands.{Command, size}
-use Rattle.device.specs.Meaning.{Meaning, Recorded, sizes}
-use Rattle.device.proofs.Runs.{sizes_append}
-use Rattle.passes.specs.Account.{Account}
-use Rattle.passes.specs.Calls.{fault}
-use Rattle.encoder.specs.Scenes.{taken, refused, judged}
-use Rattle.encoder.specs.Handled.{Handled}
+use Rattle.command_list.specs.Commands.{Command, size, readable}
+use Rattle.device.specs.Meaning.{Meaning, Recorded, Asked, sizes}
+use Rattle.device.proofs.Runs.{sizes_append, recorded_none}
+use Rattle.passes.specs.Account.{Account, with_roots}
+use Rattle.passes.specs.Calls.{SetCall, DrawCall, fault, unless, before, asks_set, after_set, set_records, drawable, buffer_there, own_constants, own_command, prepared_by, marked}
+use Rattle.passes.specs.Flush.{flushed}
+use Rattle.bindings.specs.declared.constants.SpecialConstants.{SpecialConstants as Constants}
+use Rattle.command_list.specs.declared.command.Half.{Half}
+use Rattle.command_list.specs.declared.command.Half.TheVariants.{Graphics, Compute}
+use Rattle.encoder.specs.Opening.{QuietCall, asks_quiet, quiet_records}
+use Rattle.encoder.proofs.Faults.{fault_by}
+use Rattle.encoder.proofs.Answered.{does_asked}
+use Rattle.passes.specs.declared.state.PassState.{PassState}
+use Rattle.passes.specs.State.{account, Sets}
+use Rattle.encoder.specs.Scenes.{Call, quiet, pass_quiets, set, drawing, pass_sets, pass_draws, same_half, in_pass, offers, asks, records, next, start_of, taken, refused, not_offered, judged, verdict, Does}
+use Rattle.encoder.specs.Handled.{Handled, answered}
+use Rattle.encoder.specs.Phases.{scene, pass_scene}
 
-module _ (asked : Option Fault) (rs : List Command) (next a : Account) (m : Meaning) (b : Account) (n : Meaning) where
+module _ {X : Type 0} (asked : Option Fault) (rs : List Command) (next a : X) (m : Meaning) (b : X) (n : Meaning) where
   -- a question says no
   pub handled_asked : (f : Fault) → asked ≡ Some f → b ≡ a → n ≡ m → Handled asked rs next a m (Err f) b n
   handled_asked f q p s = record {
     answer = sym (ap (λ x. judged x (leb (sizes rs) m.space)) q);
     refused = λ _. (p, s);
-    account = λ e. absurd (false≢true e);
+    state = λ e. absurd (false≢true e);
     recorded = λ e. absurd (false≢true e);
   }
 
@@ -26,7 +36,7 @@ module _ (asked : Option Fault) (rs : List Command) (next a : Account) (m : Mean
   handled_full f is q l p s = record {
     answer = ap refused is ∙ sym (ap (λ x. judged x (leb (sizes rs) m.space)) q ∙ ap (λ t. cond t taken (refused (fault number.Full 0))) (lt-leb (sizes rs) m.space l));
     refused = λ _. (p, s);
-    account = λ e. absurd (false≢true e);
+    state = λ e. absurd (false≢true e);
     recorded = λ e. absurd (false≢true e);
   }
 
@@ -35,9 +45,83 @@ module _ (asked : Option Fault) (rs : List Command) (next a : Account) (m : Mean
   handled_taken q l p r = record {
     answer = sym (ap (λ x. judged x (leb (sizes rs) m.space)) q ∙ ap (λ t. cond t taken (refused (fault number.Full 0))) (le-leb (sizes rs) m.space l));
     refused = λ e. absurd (true≢false e);
-    account = λ _. p;
+    state = λ _. p;
     recorded = λ _. r;
   }
+
+-- a call inside a pass does what it should, where it is handled so
+module _ (a b next' : Account) (null : ℕ) (m n : Meaning) (c : Call) (asked : Option Fault) (rs : List Command) (r : Result Unit Fault)
+    (offered : offers (in_pass a) c ≡ true) (asks' : asks null c a ≡ asked) (records' : records null c a ≡ rs) (next_is : next c (in_pass a) ≡ in_pass next') (start_is : start_of c m ≡ m) where
+  pub does_handled : Handled asked rs next' a m r b n → Does (scene (in_pass a) null m) c (answered r) (scene (in_pass b) null n)
+  unfolding verdict
+  does_handled h = record {
+    answer = h.answer ∙ sym answer_is;
+    refused = λ e. let q = h.refused e in λ i. record { stage = in_pass (q.0 i); null = null; meaning = q.1 i };
+    null = refl;
+    stage = λ e. ap in_pass (h.state e) ∙ sym next_is;
+    recorded = λ e. subst (λ x. Recorded x (records null c a) n) (sym start_is) (subst (λ x. Recorded m x n) (sym records') (h.recorded e));
+  }
+    where
+      answer_is : verdict (scene (in_pass a) null m) c ≡ judged asked (leb (sizes rs) m.space)
+      answer_is =
+          ap (λ o. cond o (judged (asks null c a) (leb (sizes (records null c a)) (start_of c m).space)) not_offered) offered
+          ∙ ap (λ q. judged q (leb (sizes (records null c a)) (start_of c m).space)) asks'
+          ∙ ap (λ x. judged asked (leb (sizes x) (start_of c m).space)) records'
+          ∙ ap (λ (x : Meaning). judged asked (leb (sizes rs) x.space)) start_is
+
+-- a set call records nothing, which fits any space
+pub handled_set : (c : SetCall) (p q : PassState) (r : Result Unit Fault) (m : Meaning) → Sets c p r q → Handled (asks_set c p.roots.layout) [] (after_set c (account p)) (account p) m r (account q) m
+handled_set c p q (Ok u) m s = handled_taken _ [] _ _ m _ m s.0 (omega arith) s.1 (recorded_none m)
+handled_set c p q (Err f) m s = handled_asked _ [] _ _ m _ m f s.0 (ap account s.1) refl
+
+-- one command that is asked of the recorder
+pub handled_one : {X : Type 0} (asked : Option Fault) (c : Command) (a : X) (m : Meaning) (r : Result Unit Fault) (n : Meaning) → asked ≡ None → readable c ≡ true → Asked m c r n → Handled asked (c ∷ []) a a m r a n
+handled_one asked c a m (Ok u) n q e k = handled_taken asked (c ∷ []) a a m a n q (omega (arith, k.fits)) refl k.recorded
+handled_one asked c a m (Err f) n q e k =
+    handled_full asked (c ∷ []) a a m a n f (fault_by f number.Full 0 k.fault) q
+    (⊎_elim (λ l. omega (arith, l)) (λ l. absurd (k.why e l)) (cases_lt m.space (size c))) refl k.same
+
+-- a quiet call of a pass that has it
+pub does_quiet : (q : QuietCall) (a : Account) (null : ℕ) (m n : Meaning) (r : Result Unit Fault) → pass_quiets a.half q ≡ true → Handled (asks_quiet q) (quiet_records q) a a m r a n
+    → Does (scene (in_pass a) null m) (quiet q) (answered r) (scene (in_pass a) null n)
+does_quiet q a null m n r offered h = does_handled a a a null m n (quiet q) (asks_quiet q) (quiet_records q) r offered refl refl refl refl h
+
+-- a set call of a pass that has it
+pub does_set : (c : SetCall) (p q : PassState) (null : ℕ) (m : Meaning) (r : Result Unit Fault) → pass_sets p.kind c ≡ true → set_records c (account p) ≡ [] → Sets c p r q → Does (pass_scene p null m) (set c) (answered r) (pass_scene q null m)
+does_set c p q null m r offered silent s = does_handled (account p) (account q) (after_set c (account p)) null m m (set c) (asks_set c p.roots.layout) [] r offered refl silent refl refl (handled_set c p q r m s)
+
+-- a pipeline call of a pass that has it
+pub does_pipeline : (c : SetCall) (a b : Account) (null : ℕ) (m n : Meaning) (r : Result Unit Fault) → pass_sets a.half c ≡ true
+    → Handled (asks_set c a.roots.layout) (set_records c a) (after_set c a) a m r b n → Does (scene (in_pass a) null m) (set c) (answered r) (scene (in_pass b) null n)
+does_pipeline c a b null m n r offered h = does_handled a b (after_set c a) null m n (set c) (asks_set c a.roots.layout) (set_records c a) r offered refl refl refl refl h
+
+-- a draw of a pass that has it
+module _ (c : DrawCall) (a b : Account) (null : ℕ) (m n : Meaning) (r : Result Unit Fault) (own : Option Constants) (cmd : Command)
+    (offered : pass_draws a.half c ≡ true) (there : buffer_there c ≡ true) (own_is : own_constants c ≡ own) (cmd_is : own_command c a.roots.layout ≡ cmd) where
+  pub does_draw : Handled (drawable a.pipeline a.roots.layout a.roots.elements) (flushed a.half (prepared_by own a.roots) a.vertices ++ (cmd ∷ [])) (marked own (with_roots (prepared_by own a.roots) a)) a m r b n
+      → Does (scene (in_pass a) null m) (drawing c) (answered r) (scene (in_pass b) null n)
+  does_draw h =
+      does_handled a b (marked own (with_roots (prepared_by own a.roots) a)) null m n (drawing c) (drawable a.pipeline a.roots.layout a.roots.elements) _ r
+      offered
+      (ap (λ t. before (unless t (fault number.Absent 0)) (drawable a.pipeline a.roots.layout a.roots.elements)) there)
+      (ap₂ (λ o x. flushed a.half (prepared_by o a.roots) a.vertices ++ (x ∷ [])) own_is cmd_is)
+      (ap (λ o. in_pass (marked o (with_roots (prepared_by o a.roots) a))) own_is)
+      refl h
+
+-- its buffer is none
+pub draw_absent : (c : DrawCall) (a : Account) (null : ℕ) (m : Meaning) → pass_draws a.half c ≡ true → buffer_there c ≡ false → (f : Fault) → f ≡ fault number.Absent 0
+    → Does (scene (in_pass a) null m) (drawing c) (refused f) (scene (in_pass a) null m)
+draw_absent c a null m offered none' f is =
+    does_asked _ (drawing c) f _ offered (ap (λ t. before (unless t (fault number.Absent 0)) (drawable a.pipeline a.roots.layout a.roots.elements)) none' ∙ ap Some (sym is)) refl
+
+-- the half of a pass
+pub renders : (h : Half) → same_half h Graphics ≡ true → h ≡ Graphics
+renders Graphics e = refl
+renders Compute e = absurd (false≢true e)
+
+pub computes : (h : Half) → same_half h Compute ≡ true → h ≡ Compute
+computes Graphics e = absurd (false≢true e)
+computes Compute e = refl
 
 -- commands, and one more
 pub sizes_last : (cs : List Command) (c : Command) → sizes (cs ++ (c ∷ [])) ≡ sizes cs + size c

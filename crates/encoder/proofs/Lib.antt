@@ -3,3 +3,4 @@ pub mod Coming
 pub mod Turns
 pub mod Flushes
 pub mod Handling
+pub mod Faults

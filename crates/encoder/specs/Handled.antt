@@ -1,18 +1,17 @@
--- What a call inside a pass does to the pass and to the recorder.
+-- What a call does to an encoder's own state and to its recorder.
 use Rattle.std.specs.Prelude.{◌≡◌, Bool, true, false, List, Ok, Err, Option, Result, nat_le}
 use Rattle.command_list.specs.declared.fault.Fault.{Fault}
 use Rattle.command_list.specs.Commands.{Command}
 use Rattle.device.specs.Meaning.{Meaning, Recorded, sizes}
-use Rattle.passes.specs.Account.{Account}
 use Rattle.encoder.specs.Scenes.{Answer, taken, refused, is_taken, judged}
 
 abbrev pub answered : Result Unit Fault → Answer
 answered (Ok u) = taken
 answered (Err f) = refused f
 
--- The call asked so, and has these records; a refused one left all as it was, a taken one left the next account, and its records were recorded.
-pub record Handled (asked : Option Fault) (records : List Command) (next a : Account) (m : Meaning) (r : Result Unit Fault) (b : Account) (n : Meaning) : Type 0 where
+-- The call asked so, and has these records; a refused one left all as it was, a taken one left the next state, and its records were recorded.
+pub record Handled {X : Type 0} (asked : Option Fault) (records : List Command) (next a : X) (m : Meaning) (r : Result Unit Fault) (b : X) (n : Meaning) : Type 0 where
   pub answer : answered r ≡ judged asked (nat_le (sizes records) m.space)
   pub refused : is_taken (answered r) ≡ false → (b ≡ a) × (n ≡ m)
-  pub account : is_taken (answered r) ≡ true → b ≡ next
+  pub state : is_taken (answered r) ≡ true → b ≡ next
   pub recorded : is_taken (answered r) ≡ true → Recorded m records n

@@ -2,3 +2,4 @@ pub mod Opening
 pub mod Scenes
 pub mod Putting
 pub mod Handled
+pub mod Phases

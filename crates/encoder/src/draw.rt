@@ -15,6 +15,9 @@ use command_list::fault::{FULL, Fault};
 use device::recorder::Recorder;
 use passes::state::PassState;
 
+// The bytes of an indirect call's record.
+pub(crate) const INDIRECT_BYTES: usize = 21;
+
 // The touched slots are written, and then the draw's own record, all of it or nothing. A refused draw leaves no trace
 // of its special constants.
 pub(crate) fn record_draw<R: Recorder>(

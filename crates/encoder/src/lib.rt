@@ -2,5 +2,9 @@
 #![tactic(auto)]
 
 pub mod attachment;
+pub mod compute;
 mod draw;
 mod flush;
+pub mod phase;
+mod pipeline;
+pub mod render;

@@ -1,0 +1,123 @@
+// The calls of a render pass.
+ghost use Rattle.std.specs.Prelude.{slice_index};
+ghost use Rattle.passes.specs.Calls.{set_bind_group, set_immediates, set_render_pipeline, set_vertex_buffer, draw, draw_indirect};
+ghost use Rattle.encoder.specs.Opening.{set_viewport, set_scissor_rect};
+ghost use Rattle.encoder.specs.Scenes.{quiet, set, drawing, Does};
+ghost use Rattle.encoder.specs.Handled.{answered};
+ghost use Rattle.encoder.specs.Phases.{pass_scene};
+
+use crate::draw::{INDIRECT_BYTES, record_draw};
+use crate::phase::RenderPass;
+use crate::pipeline::record_render_pipeline;
+use bindings::binding::BufferBinding;
+use bindings::constants::SpecialConstants;
+use bindings::rect::Rect;
+use command_list::command::{Fixed, Half};
+use command_list::fault::{Fault, Number};
+use device::recorder::Recorder;
+use layouts::layout::PipelineLayout;
+use layouts::pipeline::RenderPipeline;
+use passes::state::BindGroup;
+
+// The bytes of a draw's record.
+const DRAW_BYTES: usize = 19;
+
+impl<R: Recorder> RenderPass<R> {
+    pub fn set_bind_group(
+        &mut self,
+        layout: &PipelineLayout,
+        index: u32,
+        group: BindGroup<'_>,
+        dynamic_offsets: &[u32],
+    ) -> Result<(), Fault>
+        ensures { Does (pass_scene self.old.pass self.old.null_target (R.Recorder.meaning self.old.recorder)) (set (set_bind_group layout.now index group.entry.table group.entry.dynamic_buffers.now dynamic_offsets.now)) (answered result) (pass_scene self.new.pass self.new.null_target (R.Recorder.meaning self.new.recorder)) }
+    {
+        self.pass
+            .set_bind_group(layout, index, group, dynamic_offsets)
+    }
+
+    pub fn set_immediates(
+        &mut self,
+        layout: &PipelineLayout,
+        offset_bytes: u32,
+        words: &[u32],
+    ) -> Result<(), Fault>
+        ensures { Does (pass_scene self.old.pass self.old.null_target (R.Recorder.meaning self.old.recorder)) (set (set_immediates layout.now offset_bytes words.now)) (answered result) (pass_scene self.new.pass self.new.null_target (R.Recorder.meaning self.new.recorder)) }
+    {
+        self.pass.set_immediates(layout, offset_bytes, words)
+    }
+
+    pub fn set_render_pipeline(&mut self, pipeline: &RenderPipeline) -> Result<(), Fault>
+        ensures { Does (pass_scene self.old.pass self.old.null_target (R.Recorder.meaning self.old.recorder)) (set (set_render_pipeline pipeline.now)) (answered result) (pass_scene self.new.pass self.new.null_target (R.Recorder.meaning self.new.recorder)) }
+    {
+        record_render_pipeline(&mut self.recorder, &mut self.pass, pipeline)
+    }
+
+    pub fn set_vertex_buffer(&mut self, index: u32, binding: BufferBinding) -> Result<(), Fault>
+        ensures { Does (pass_scene self.old.pass self.old.null_target (R.Recorder.meaning self.old.recorder)) (set (set_vertex_buffer index binding)) (answered result) (pass_scene self.new.pass self.new.null_target (R.Recorder.meaning self.new.recorder)) }
+    {
+        self.pass.set_vertex_buffer(index, binding)
+    }
+
+    // Six float patterns: x, y, width, height, least and greatest depth.
+    pub fn set_viewport(&mut self, viewport: [u32; 6]) -> Result<(), Fault>
+        ensures { Does (pass_scene self.old.pass self.old.null_target (R.Recorder.meaning self.old.recorder)) (quiet (set_viewport (slice_index viewport 0) (slice_index viewport 1) (slice_index viewport 2) (slice_index viewport 3) (slice_index viewport 4) (slice_index viewport 5))) (answered result) (pass_scene self.new.pass self.new.null_target (R.Recorder.meaning self.new.recorder)) }
+    {
+        self.recorder.rs_set_viewports(viewport)
+    }
+
+    pub fn set_scissor_rect(&mut self, rect: Rect) -> Result<(), Fault>
+        ensures { Does (pass_scene self.old.pass self.old.null_target (R.Recorder.meaning self.old.recorder)) (quiet (set_scissor_rect rect.x rect.y rect.w rect.h)) (answered result) (pass_scene self.new.pass self.new.null_target (R.Recorder.meaning self.new.recorder)) }
+    {
+        let ends = rect.bounds()?;
+        self.recorder
+            .rs_set_scissor_rects(ends.left, ends.top, ends.right, ends.bottom)
+    }
+
+    pub fn draw(
+        &mut self,
+        first_vertex: u32,
+        vertex_count: u32,
+        first_instance: u32,
+        instance_count: u32,
+    ) -> Result<(), Fault>
+        ensures { Does (pass_scene self.old.pass self.old.null_target (R.Recorder.meaning self.old.recorder)) (drawing (draw first_vertex vertex_count first_instance instance_count)) (answered result) (pass_scene self.new.pass self.new.null_target (R.Recorder.meaning self.new.recorder)) }
+    {
+        let constants = SpecialConstants::from_draw(first_vertex, first_instance);
+        let command = Fixed::DrawInstanced {
+            vertices: vertex_count,
+            instances: instance_count,
+            first_vertex,
+            first_instance,
+        };
+        record_draw(
+            &mut self.recorder,
+            &mut self.pass,
+            Some(constants),
+            command,
+            DRAW_BYTES,
+        )
+    }
+
+    pub fn draw_indirect(&mut self, buffer: u32, offset: u64, draw_count: u32) -> Result<(), Fault>
+        ensures { Does (pass_scene self.old.pass self.old.null_target (R.Recorder.meaning self.old.recorder)) (drawing (draw_indirect buffer offset draw_count)) (answered result) (pass_scene self.new.pass self.new.null_target (R.Recorder.meaning self.new.recorder)) }
+    {
+        if buffer == 0 {
+            return Err(Number::Absent.at(0));
+        }
+        let command = Fixed::ExecuteIndirect {
+            half: Half::Graphics,
+            special: self.pass.own_slot(),
+            count: draw_count,
+            buffer,
+            offset,
+        };
+        record_draw(
+            &mut self.recorder,
+            &mut self.pass,
+            None,
+            command,
+            INDIRECT_BYTES,
+        )
+    }
+}
