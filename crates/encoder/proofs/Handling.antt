@@ -1,6 +1,6 @@
 -- How a call inside a pass is shown to do what it should.
-use Rattle.std.proofs.Common.{◌≡◌, ℕ, ◌<◌, ◌≤◌, subst, Result, true, false, cond, leb, ◌+◌, List, [], ◌∷◌, ◌++◌, arith, Some, None, Ok, Err, Option, sym, refl, ap, ap₂, ◌∙◌, ⊎_elim}
-use Rattle.std.proofs.lemmas.Bool.{cases_lt, true≢false, false≢true, le-leb, lt-leb}
+use Rattle.std.proofs.Common.{◌≡◌, ℕ, ◌^◌, ◌&&◌, Bool, ltb, ◌<◌, ◌≤◌, subst, Result, true, false, cond, leb, ◌+◌, List, [], ◌∷◌, ◌++◌, arith, Some, None, Ok, Err, Option, sym, refl, ap, ap₂, ◌∙◌, ⊎_elim}
+use Rattle.std.proofs.lemmas.Bool.{cases_lt, and_from, and_parts, lt-ltb, ltb-true, true≢false, false≢true, le-leb, lt-leb}
 use Rattle.command_list.specs.declared.fault.Fault.{Fault}
 use Rattle.command_list.specs.declared.fault.Number.TheVariants as number
 use Rattle.command_list.specs.Commands.{Command, size, readable}
@@ -12,7 +12,10 @@ use Rattle.passes.specs.Flush.{flushed}
 use Rattle.bindings.specs.declared.constants.SpecialConstants.{SpecialConstants as Constants}
 use Rattle.command_list.specs.declared.command.Half.{Half}
 use Rattle.command_list.specs.declared.command.Half.TheVariants.{Graphics, Compute}
-use Rattle.encoder.specs.Opening.{QuietCall, asks_quiet, quiet_records}
+use Rattle.command_list.specs.Seen.{IsFault}
+use Rattle.bindings.specs.declared.rect.Rect.{Rect}
+use Rattle.bindings.specs.Rects.{Ends}
+use Rattle.encoder.specs.Opening.{QuietCall, set_scissor_rect, asks_quiet, quiet_records}
 use Rattle.encoder.proofs.Faults.{fault_by}
 use Rattle.encoder.proofs.Answered.{does_asked}
 use Rattle.passes.specs.declared.state.PassState.{PassState}
@@ -85,6 +88,20 @@ handled_one asked c a m (Err f) n q e k =
 pub does_quiet : (q : QuietCall) (a : Account) (null : ℕ) (m n : Meaning) (r : Result Unit Fault) → pass_quiets a.half q ≡ true → Handled (asks_quiet q) (quiet_records q) a a m r a n
     → Does (scene (in_pass a) null m) (quiet q) (answered r) (scene (in_pass a) null n)
 does_quiet q a null m n r offered h = does_handled a a a null m n (quiet q) (asks_quiet q) (quiet_records q) r offered refl refl refl refl h
+
+-- the ends of a scissor rectangle are asked about
+pub scissor_within : (r : Rect) → Ends r → asks_quiet (set_scissor_rect r.x r.y r.w r.h) ≡ None
+scissor_within r k =
+    ap (λ t. unless t (fault number.Extent 0)) (and_from (ltb (r.x + r.w) (2 ^ 31)) (ltb (r.y + r.h) (2 ^ 31)) (lt-ltb (r.x + r.w) (2 ^ 31) k.0) (lt-ltb (r.y + r.h) (2 ^ 31) k.1))
+
+pub scissor_outside : (r : Rect) (f : Fault) → IsFault f 5 0 → (Ends r → ⊥) → asks_quiet (set_scissor_rect r.x r.y r.w r.h) ≡ Some f
+scissor_outside r f e n = by _ refl
+  where
+    by : (t : Bool) → (ltb (r.x + r.w) (2 ^ 31) && ltb (r.y + r.h) (2 ^ 31)) ≡ t → unless t (fault number.Extent 0) ≡ Some f
+    by false q = ap Some (sym (fault_by f number.Extent 0 e))
+    by true q =
+        let both = and_parts (ltb (r.x + r.w) (2 ^ 31)) (ltb (r.y + r.h) (2 ^ 31)) q in
+        absurd (n (ltb-true (r.x + r.w) (2 ^ 31) both.0, ltb-true (r.y + r.h) (2 ^ 31) both.1))
 
 -- a set call of a pass that has it
 pub does_set : (c : SetCall) (p q : PassState) (null : ℕ) (m : Meaning) (r : Result Unit Fault) → pass_sets p.kind c ≡ true → set_records c (account p) ≡ [] → Sets c p r q → Does (pass_scene p null m) (set c) (answered r) (pass_scene q null m)
