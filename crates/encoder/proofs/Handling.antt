@@ -4,7 +4,7 @@ use Rattle.std.proofs.lemmas.Bool.{cases_lt, and_from, and_parts, lt-ltb, ltb-tr
 use Rattle.command_list.specs.declared.fault.Fault.{Fault}
 use Rattle.command_list.specs.declared.fault.Number.TheVariants as number
 use Rattle.command_list.specs.Commands.{Command, size, readable}
-use Rattle.device.specs.Meaning.{Meaning, Recorded, Asked, sizes}
+use Rattle.device.specs.Meaning.{Meaning, Anew, Recorded, Asked, sizes}
 use Rattle.device.proofs.Runs.{sizes_append, recorded_none}
 use Rattle.passes.specs.Account.{Account, with_roots}
 use Rattle.passes.specs.Calls.{SetCall, DrawCall, fault, unless, before, asks_set, after_set, set_records, drawable, buffer_there, own_constants, own_command, prepared_by, marked}
@@ -17,10 +17,10 @@ use Rattle.bindings.specs.declared.rect.Rect.{Rect}
 use Rattle.bindings.specs.Rects.{Ends}
 use Rattle.encoder.specs.Opening.{QuietCall, set_scissor_rect, asks_quiet, quiet_records}
 use Rattle.encoder.proofs.Faults.{fault_by}
-use Rattle.encoder.proofs.Answered.{does_asked}
+use Rattle.encoder.proofs.Answered.{does_asked, does_taken}
 use Rattle.passes.specs.declared.state.PassState.{PassState}
 use Rattle.passes.specs.State.{account, Sets}
-use Rattle.encoder.specs.Scenes.{Call, quiet, pass_quiets, set, drawing, pass_sets, pass_draws, same_half, in_pass, offers, asks, records, next, start_of, taken, refused, not_offered, judged, verdict, Does}
+use Rattle.encoder.specs.Scenes.{Call, Stage, idle, anew, begin_encoding, end_encoding, discard_encoding, recording, list_quiets, quiet, pass_quiets, set, drawing, pass_sets, pass_draws, same_half, in_pass, offers, asks, records, next, start_of, taken, refused, not_offered, judged, verdict, Does}
 use Rattle.encoder.specs.Handled.{Handled, answered}
 use Rattle.encoder.specs.Phases.{scene, pass_scene}
 
@@ -102,6 +102,31 @@ scissor_outside r f e n = by _ refl
     by true q =
         let both = and_parts (ltb (r.x + r.w) (2 ^ 31)) (ltb (r.y + r.h) (2 ^ 31)) q in
         absurd (n (ltb-true (r.x + r.w) (2 ^ 31) both.0, ltb-true (r.y + r.h) (2 ^ 31) both.1))
+
+-- a transition outside of passes
+pub does_listed : (q : QuietCall) (null : ℕ) (m n : Meaning) (r : Result Unit Fault) → list_quiets q ≡ true → Handled {X = Unit} (asks_quiet q) (quiet_records q) tt tt m r tt n
+    → Does (scene recording null m) (quiet q) (answered r) (scene recording null n)
+unfolding verdict
+does_listed q null m n r offered h = record {
+  answer = h.answer ∙ sym (ap (λ o. cond o (judged (asks_quiet q) (leb (sizes (quiet_records q)) m.space)) not_offered) offered);
+  refused = λ e. ap (scene recording null) (h.refused e).1;
+  null = refl;
+  stage = λ e. refl;
+  recorded = λ e. h.recorded e;
+}
+
+-- the beginning and the end of a list, which record nothing
+pub does_begin : (null : ℕ) (m n : Meaning) → Anew m n → Does (scene idle null m) begin_encoding taken (scene recording null n)
+does_begin null m n e =
+    let is : n ≡ anew m = λ i. record { device = e.device i; space = e.space i; made = e.made i; shown = e.shown i } in
+    does_taken _ begin_encoding _ refl refl (omega arith) refl refl (subst (λ x. Recorded (anew m) [] x) (sym is) (recorded_none (anew m)))
+
+pub does_end : (null : ℕ) (m : Meaning) → Does (scene recording null m) end_encoding taken (scene idle null m)
+does_end null m = does_taken _ end_encoding _ refl refl (omega arith) refl refl (recorded_none m)
+
+-- so does giving it up
+pub does_discard : (s : Stage) (null : ℕ) (m : Meaning) → offers s discard_encoding ≡ true → Does (scene s null m) discard_encoding taken (scene idle null m)
+does_discard s null m offered = does_taken _ discard_encoding _ offered refl (omega arith) refl refl (recorded_none m)
 
 -- a set call of a pass that has it
 pub does_set : (c : SetCall) (p q : PassState) (null : ℕ) (m : Meaning) (r : Result Unit Fault) → pass_sets p.kind c ≡ true → set_records c (account p) ≡ [] → Sets c p r q → Does (pass_scene p null m) (set c) (answered r) (pass_scene q null m)

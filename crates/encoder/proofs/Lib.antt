@@ -4,3 +4,4 @@ pub mod Turns
 pub mod Flushes
 pub mod Handling
 pub mod Faults
+pub mod Transitions

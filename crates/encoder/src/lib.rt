@@ -5,6 +5,7 @@ pub mod attachment;
 pub mod compute;
 mod draw;
 mod flush;
+pub mod list;
 pub mod phase;
 mod pipeline;
 pub mod render;

@@ -44,7 +44,7 @@ module _ (m n : Meaning) (len was end : ℕ) (es part : List Barrier) (short : l
 
   -- what one record of them answered is what became of them
   pub batch_asked : (r : Result Unit Fault) → 0 < length part → Asked m (ResourceBarrier part) r n → Batched m len was es r n
-  batch_asked (Ok u) h t = (taken_in, subst (λ (cs : List Command). Recorded m cs n) (one h) t.recorded)
+  batch_asked (Ok u) h t = (taken_in, omega (arith, t.fits, ap sizes (one h)), subst (λ (cs : List Command). Recorded m cs n) (one h) t.recorded)
   batch_asked (Err f) h r =
       let s = some h in
       let l : length part ≡ length es = ap length put.2 in

@@ -22,9 +22,9 @@ Put fill entries es (Ok u) fill' entries' =
     (fill' ≡ fill + length es) × (0 < length es → fill' ≤ length entries) × (take (fill' - fill) (drop fill entries') ≡ es)
 Put fill entries es (Err f) fill' entries' = IsFault f 9 0 × (0 < length es) × (length entries < fill + length es)
 
--- what becomes of the barriers es: all recorded at once; or refused, 9 where the scratch does not take them, 10 where the space does not, and nothing recorded
+-- what becomes of the barriers es: all recorded at once, in a space that has room for them; or refused, 9 where the scratch does not take them, 10 where the space does not, and nothing recorded
 abbrev pub Batched : Meaning → ℕ → ℕ → List Barrier → Result Unit Fault → Meaning → Type 0
-Batched m len fill es (Ok u) n = Takes len fill es × Recorded m (transition_records es) n
+Batched m len fill es (Ok u) n = Takes len fill es × (sizes (transition_records es) ≤ m.space) × Recorded m (transition_records es) n
 Batched m len fill es (Err f) n =
     (n ≡ m) × ((IsFault f 9 0 × (Takes len fill es → ⊥)) ⊎ (IsFault f 10 0 × Takes len fill es × (m.space < sizes (transition_records es))))
 
