@@ -5,3 +5,4 @@ pub mod Flushes
 pub mod Handling
 pub mod Faults
 pub mod Transitions
+pub mod Sizes

@@ -1,9 +1,12 @@
 -- Commands that are recorded where their space is known.
-use Rattle.std.specs.Prelude.{ℕ, List, Ok, Err, Result}
+use Rattle.std.specs.Prelude.{◌≡◌, ℕ, ◌≤◌, true, Option, map, length, [], ◌∷◌, ◌++◌, List, Ok, Err, Result}
 use Rattle.command_list.specs.declared.command.Half.{Half}
 use Rattle.command_list.specs.declared.command.Half.TheVariants.{Graphics, Compute}
 use Rattle.command_list.specs.declared.fault.Fault.{Fault}
-use Rattle.command_list.specs.Commands.{Command}
+use Rattle.command_list.specs.Commands.{Command, BeginEvent, SetDescriptorHeaps, OMSetRenderTargets, RSSetViewports, RSSetScissorRects, readable}
+use Rattle.bindings.specs.Extents.{single}
+use Rattle.encoder.specs.declared.attachment.ColorAttachment.{ColorAttachment}
+use Rattle.encoder.specs.Opening.{target_of, clear_records}
 use Rattle.device.specs.Meaning.{Meaning, Recorded}
 
 -- the commands were recorded, and not refused
@@ -15,3 +18,19 @@ Put m cs (Err f) n = ⊥
 abbrev pub constant_count : Half → ℕ
 constant_count Graphics = 2
 constant_count Compute = 3
+
+-- the event of a label's units; no units stand for no label
+abbrev pub event_records : List ℕ → List Command
+event_records [] = []
+event_records (u ∷ us) = BeginEvent (u ∷ us) ∷ []
+
+-- there is no label, or its event can be recorded
+abbrev pub CanBegin : List ℕ → Type 0
+CanBegin [] = Unit {0}
+CanBegin (u ∷ us) = (readable (BeginEvent (u ∷ us)) ≡ true) × (length (u ∷ us) ≤ 257)
+
+-- what every opening of a render pass records behind its label
+abbrev pub frame_records : ℕ → ℕ → ℕ → List (Option ColorAttachment) → List Command
+frame_records null w h targets =
+    SetDescriptorHeaps true ∷ OMSetRenderTargets (map (target_of null) targets)
+    ∷ (clear_records targets ++ (RSSetViewports (single 0) (single 0) (single w) (single h) (single 0) (single 1) ∷ RSSetScissorRects 0 0 w h ∷ []))

@@ -1,5 +1,8 @@
 // What a render pass draws to.
 
+// The most attachments of a pass.
+pub const MAX_COLOR_ATTACHMENTS: usize = 8;
+
 // A render target with what happens to it at the opening: bit 2 of its ops clears it to a colour of
 // four float patterns.
 #[derive(Clone, Copy)]

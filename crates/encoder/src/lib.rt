@@ -6,6 +6,7 @@ pub mod compute;
 mod draw;
 mod flush;
 pub mod list;
+mod opening;
 pub mod phase;
 mod pipeline;
 pub mod render;
