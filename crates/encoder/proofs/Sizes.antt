@@ -1,13 +1,16 @@
 -- The sizes of the records of openings and endings.
-use Rattle.std.proofs.Common.{◌≡◌, ℕ, ◌+◌, ◌*◌, ◌≤◌, true, ◌<◌, List, [], ◌∷◌, ◌++◌, length, drop, get_or, Some, None, Option, ap, sym, refl, ◌∙◌, arith}
+use Rattle.std.proofs.Common.{◌≡◌, ℕ, ◌+◌, ◌*◌, ◌≤◌, true, ◌<◌, List, [], ◌∷◌, ◌++◌, length, drop, get_or, map, Ok, Err, Result, Some, None, Option, ap, sym, refl, ◌∙◌, arith}
 use Rattle.std.proofs.lemmas.Bool.{le-leb}
-use Rattle.std.proofs.lemmas.List.{append-nil, drop_more}
-use Rattle.command_list.specs.Commands.{BeginEvent, OMSetRenderTargets, unit, handle, size, readable}
-use Rattle.device.specs.Meaning.{sizes}
-use Rattle.device.proofs.Runs.{sizes_append}
+use Rattle.std.proofs.lemmas.List.{append-nil, drop_more, length-map}
+use Rattle.command_list.specs.Commands.{Command, BeginEvent, SetDescriptorHeaps, OMSetRenderTargets, RSSetViewports, RSSetScissorRects, unit, handle, size, readable}
+use Rattle.device.specs.Meaning.{Meaning, Recorded, sizes}
+use Rattle.device.proofs.Runs.{sizes_append, recorded_then}
 use Rattle.encoder.specs.declared.attachment.ColorAttachment.{ColorAttachment}
-use Rattle.encoder.specs.Opening.{clear_of, clear_records}
-use Rattle.encoder.specs.Putting.{event_records, CanBegin}
+use Rattle.encoder.specs.Opening.{target_of, clear_of, clear_records}
+use Rattle.encoder.specs.Putting.{Put, Offered, event_records, CanBegin, frame_records}
+use Rattle.command_list.specs.declared.fault.Fault.{Fault}
+use Rattle.bindings.specs.Extents.{single}
+use Rattle.encoder.proofs.Handling.{handled_taken}
 use Rattle.list_writer.proofs.Rows.{total_entries}
 use Rattle.list_writer.proofs.Readable.{readable_targets}
 
@@ -49,3 +52,29 @@ event_some (u ∷ us) h = refl
 pub begins : (us : List ℕ) → 0 < length us → CanBegin us → (readable (BeginEvent us) ≡ true) × (length us ≤ 257)
 begins [] h c = absurd (omega (arith, h))
 begins (u ∷ us) h c = c
+
+-- ---- the whole of an opening
+
+pub render_size : (us : List ℕ) (null w h : ℕ) (os : List (Option ColorAttachment))
+    → sizes (event_records us ++ frame_records null w h os) ≡ sizes (event_records us) + (4 + (4 + 8 * length os) + sizes (clear_records os) + 46)
+render_size us null w h os =
+    let last : List Command = RSSetViewports (single 0) (single 0) (single w) (single h) (single 0) (single 1) ∷ RSSetScissorRects 0 0 w h ∷ [] in
+    let t = targets_size (map (target_of null) os) in
+    let n = length-map os (target_of null) in
+    omega (arith, sizes_append (event_records us) (frame_records null w h os), sizes_append (clear_records os) last, t, n)
+
+-- the records of an opening, one behind the other
+pub render_recorded : (us : List ℕ) (null w h : ℕ) (os : List (Option ColorAttachment)) (m₀ m₁ m₂ m₃ m₄ m₅ m₆ : Meaning)
+    → Recorded m₀ (event_records us) m₁ → Recorded m₁ (SetDescriptorHeaps true ∷ []) m₂ → Recorded m₂ (OMSetRenderTargets (map (target_of null) os) ∷ []) m₃ → Recorded m₃ (clear_records os) m₄
+    → Recorded m₄ (RSSetViewports (single 0) (single 0) (single w) (single h) (single 0) (single 1) ∷ []) m₅ → Recorded m₅ (RSSetScissorRects 0 0 w h ∷ []) m₆
+    → Recorded m₀ (event_records us ++ frame_records null w h os) m₆
+render_recorded us null w h os m₀ m₁ m₂ m₃ m₄ m₅ m₆ event heaps targets clears view scissor =
+    let end = recorded_then m₄ m₅ m₆ (RSSetViewports (single 0) (single 0) (single w) (single h) (single 0) (single 1) ∷ []) (RSSetScissorRects 0 0 w h ∷ []) view scissor in
+    let drawn = recorded_then m₃ m₄ m₆ (clear_records os) _ clears end in
+    let bound = recorded_then m₂ m₃ m₆ (OMSetRenderTargets (map (target_of null) os) ∷ []) _ targets drawn in
+    recorded_then m₀ m₁ m₆ (event_records us) (frame_records null w h os) event (recorded_then m₁ m₂ m₆ (SetDescriptorHeaps true ∷ []) _ heaps bound)
+
+-- what was put last ends a call that was asked and has room
+pub offered_put : (asked : Option Fault) (all cs : List Command) (m n k : Meaning) (r : Result Unit Fault) → asked ≡ None → sizes all ≤ m.space → (Recorded n cs k → Recorded m all k) → Put n cs r k → Offered asked all m r k
+offered_put asked all cs m n k (Ok u) q h f p = handled_taken asked all tt tt m tt k q h refl (f p)
+offered_put asked all cs m n k (Err e) q h f p = absurd p

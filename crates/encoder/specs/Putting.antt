@@ -6,6 +6,7 @@ use Rattle.command_list.specs.declared.fault.Fault.{Fault}
 use Rattle.command_list.specs.Commands.{Command, BeginEvent, SetDescriptorHeaps, OMSetRenderTargets, RSSetViewports, RSSetScissorRects, readable}
 use Rattle.bindings.specs.Extents.{single}
 use Rattle.encoder.specs.declared.attachment.ColorAttachment.{ColorAttachment}
+use Rattle.encoder.specs.Handled.{Handled}
 use Rattle.encoder.specs.Opening.{target_of, clear_records}
 use Rattle.device.specs.Meaning.{Meaning, Recorded}
 
@@ -34,3 +35,7 @@ abbrev pub frame_records : ℕ → ℕ → ℕ → List (Option ColorAttachment)
 frame_records null w h targets =
     SetDescriptorHeaps true ∷ OMSetRenderTargets (map (target_of null) targets)
     ∷ (clear_records targets ++ (RSSetViewports (single 0) (single 0) (single w) (single h) (single 0) (single 1) ∷ RSSetScissorRects 0 0 w h ∷ []))
+
+-- a call that has no state of its own
+abbrev pub Offered : Option Fault → List Command → Meaning → Result Unit Fault → Meaning → Type 0
+Offered asked records m r n = Handled {X = Unit} asked records tt tt m r tt n

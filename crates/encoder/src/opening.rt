@@ -1,14 +1,12 @@
 // What openings and endings of passes record.
-ghost use Rattle.std.specs.Prelude.{◌≡◌, ◌+◌, ◌≤◌, true, [], ◌∷◌, ◌++◌, length, map};
-ghost use Rattle.command_list.specs.Commands.{BeginEvent, SetDescriptorHeaps, OMSetRenderTargets, RSSetViewports, RSSetScissorRects, size, readable};
+ghost use Rattle.std.specs.Prelude.{◌≡◌, ℕ, ◌≤◌, true, [], ◌∷◌, ◌++◌, length, map, None, option_map};
+ghost use Rattle.command_list.specs.Commands.{SetDescriptorHeaps, OMSetRenderTargets, size};
 ghost use Rattle.command_list.specs.declared.fault.Number.TheVariants as number;
 ghost use Rattle.device.specs.Meaning.{sizes};
-ghost use Rattle.bindings.specs.Extents.{single};
 ghost use Rattle.passes.specs.Calls.{fault_at};
 ghost use Rattle.passes.specs.State.{fault_of};
-ghost use Rattle.encoder.specs.Opening.{target_of, clears, clear_records, no_target, ending_records};
-ghost use Rattle.encoder.specs.Handled.{Handled};
-ghost use Rattle.encoder.specs.Putting.{Put, event_records, CanBegin, frame_records};
+ghost use Rattle.encoder.specs.Opening.{target_of, clears, clear_records, no_target, render_pass, compute_pass, asks_opening, opening_records, ending_records};
+ghost use Rattle.encoder.specs.Putting.{Put, Offered, event_records, CanBegin, frame_records};
 
 use crate::attachment::{ColorAttachment, MAX_COLOR_ATTACHMENTS};
 use crate::flush::put;
@@ -16,13 +14,21 @@ use bindings::extent::Extent;
 use command_list::command::{Command, Fixed};
 use command_list::fault::{FULL, Fault, Number};
 use device::recorder::Recorder;
+use labels::label::Label;
 
-// The bytes of the records that every opening or ending of a render pass has.
+// The bytes of the records: heaps, targets with none of them, each target, a clear, a viewport with a scissor, the end
+// of an event.
 const HEAPS_BYTES: usize = 4;
+
+const TARGETS_BYTES: usize = 4;
+
+const TARGET_BYTES: usize = 8;
 
 const CLEAR_BYTES: usize = 27;
 
 const FRAME_BYTES: usize = 46;
+
+const EVENT_END_BYTES: usize = 3;
 
 // The target of an attachment, or the null target where it is left out.
 fn target(null_target: u64, attachment: &Option<ColorAttachment>) -> u64
@@ -153,4 +159,105 @@ fn put_event<R: Recorder>(recorder: &mut R, units: &[u16]) -> Result<(), Fault>
         return Ok(());
     }
     put(recorder, Command::BeginEvent(units))
+}
+
+// A render pass's label, heaps, targets, clears, viewport and scissor, all of it or nothing.
+fn record_render<R: Recorder>(
+    recorder: &mut R,
+    null_target: u64,
+    units: &[u16],
+    extent: Extent,
+    attachments: &[Option<ColorAttachment>],
+) -> Result<(), Fault>
+    requires begins { CanBegin units.now }
+    requires few { length attachments.now ≤ 8 }
+    ensures { Offered (fault_at number.Absent (no_target 0 null_target attachments.now)) (event_records units.now ++ frame_records null_target extent.width extent.height attachments.now) (R.Recorder.meaning recorder.old) result (R.Recorder.meaning recorder.new) }
+{
+    check_targets(null_target, attachments)?;
+    let targets_size = TARGETS_BYTES + TARGET_BYTES * attachments.len();
+    let size = event_size(units) + HEAPS_BYTES + targets_size + clears_size(attachments);
+    if recorder.space() < size + FRAME_BYTES {
+        return Err(FULL);
+    }
+    put_event(recorder, units)?;
+    put(recorder, Fixed::SetDescriptorHeaps(true))?;
+    put_targets(recorder, null_target, attachments)?;
+    put_clears(recorder, attachments)?;
+    put(recorder, Fixed::RSSetViewports(extent.viewport()))?;
+    put(
+        recorder,
+        Fixed::RSSetScissorRects {
+            left: 0,
+            top: 0,
+            right: extent.width(),
+            bottom: extent.height(),
+        },
+    )
+}
+
+// A compute pass's label and heaps.
+fn record_compute<R: Recorder>(recorder: &mut R, units: &[u16]) -> Result<(), Fault>
+    requires { CanBegin units.now }
+    ensures { Offered None (event_records units.now ++ (SetDescriptorHeaps true ∷ [])) (R.Recorder.meaning recorder.old) result (R.Recorder.meaning recorder.new) }
+{
+    if recorder.space() < event_size(units) + HEAPS_BYTES {
+        return Err(FULL);
+    }
+    put_event(recorder, units)?;
+    put(recorder, Fixed::SetDescriptorHeaps(true))
+}
+
+// The end of a pass: heaps off, and the end of its label's event.
+pub(crate) fn record_ending<R: Recorder>(recorder: &mut R, labelled: bool) -> Result<(), Fault>
+    ensures { Offered None (ending_records labelled) (R.Recorder.meaning recorder.old) result (R.Recorder.meaning recorder.new) }
+{
+    let event_bytes = if labelled { EVENT_END_BYTES } else { 0 };
+    if recorder.space() < HEAPS_BYTES + event_bytes {
+        return Err(FULL);
+    }
+    put(recorder, Fixed::SetDescriptorHeaps(false))?;
+    if labelled {
+        put(recorder, Fixed::EndEvent)?;
+    }
+    Ok(())
+}
+
+// The opening of a render pass.
+pub(crate) fn open_render<R: Recorder>(
+    recorder: &mut R,
+    null_target: u64,
+    label: Option<&[u8]>,
+    width: u32,
+    height: u32,
+    attachments: &[Option<ColorAttachment>],
+) -> Result<(), Fault>
+    ensures { Offered (asks_opening null_target (render_pass (option_map (λ b. b.now) label.entry) width height attachments.now)) (opening_records null_target (render_pass (option_map (λ b. b.now) label.entry) width height attachments.now)) (R.Recorder.meaning recorder.old) result (R.Recorder.meaning recorder.new) }
+{
+    if attachments.len() > MAX_COLOR_ATTACHMENTS {
+        return Err(Number::Range.at(MAX_COLOR_ATTACHMENTS));
+    }
+    let extent = Extent::new(width, height)?;
+    match label {
+        None => record_render(recorder, null_target, &[], extent, attachments),
+        Some(bytes) => {
+            let label = Label::new(bytes)?;
+            record_render(recorder, null_target, label.units(), extent, attachments)
+        }
+    }
+}
+
+// The opening of a compute pass.
+pub(crate) fn open_compute<R: Recorder>(
+    recorder: &mut R,
+    label: Option<&[u8]>,
+) -> Result<(), Fault>
+    ensures { (null : ℕ) → Offered (asks_opening null (compute_pass (option_map (λ b. b.now) label.entry))) (opening_records null (compute_pass (option_map (λ b. b.now) label.entry))) (R.Recorder.meaning recorder.old) result (R.Recorder.meaning recorder.new) }
+{
+    match label {
+        None => record_compute(recorder, &[]),
+        Some(bytes) => {
+            let label = Label::new(bytes)?;
+            record_compute(recorder, label.units())
+        }
+    }
 }
