@@ -6,3 +6,4 @@ pub mod Handling
 pub mod Faults
 pub mod Transitions
 pub mod Sizes
+pub mod Labelling

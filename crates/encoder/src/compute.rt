@@ -1,12 +1,18 @@
 // The calls of a compute pass.
-ghost use Rattle.std.specs.Prelude.{◌≡◌, length, slice_index};
+ghost use Rattle.std.specs.Prelude.{◌≡◌, length, MatchResult, slice_index};
+ghost use Rattle.command_list.specs.declared.command.Half.TheVariants.{Compute};
+ghost use Rattle.resources.specs.Batches.{Kept};
+ghost use Rattle.resources.specs.Listed.{changes_of};
+ghost use Rattle.resources.specs.Usages.{buffer, texture};
+ghost use Rattle.encoder.specs.Opening.{transition as transition_call};
 ghost use Rattle.passes.specs.Calls.{set_bind_group, set_immediates, set_compute_pipeline, dispatch, dispatch_indirect};
-ghost use Rattle.encoder.specs.Scenes.{set, drawing, Does};
+ghost use Rattle.encoder.specs.Scenes.{discard_encoding, ending, quiet, set, drawing, taken, refused, Does};
 ghost use Rattle.encoder.specs.Handled.{answered};
-ghost use Rattle.encoder.specs.Phases.{pass_scene};
+ghost use Rattle.encoder.specs.Phases.{idle_scene, list_scene, pass_scene};
 
 use crate::draw::{INDIRECT_BYTES, record_draw};
-use crate::phase::ComputePass;
+use crate::opening::record_ending;
+use crate::phase::{ComputePass, Idle, Recording, Refusal};
 use crate::pipeline::record_compute_pipeline;
 use bindings::constants::SpecialConstants;
 use command_list::command::{Fixed, Half};
@@ -15,6 +21,9 @@ use device::recorder::Recorder;
 use layouts::layout::PipelineLayout;
 use layouts::pipeline::ComputePipeline;
 use passes::state::BindGroup;
+use resources::barrier::{BufferBarrier, TextureBarrier};
+use resources::batch::transition;
+use resources::scratch::Scratch;
 
 // The bytes of a dispatch's record.
 const DISPATCH_BYTES: usize = 15;
@@ -84,5 +93,69 @@ impl<R: Recorder> ComputePass<R> {
             command,
             INDIRECT_BYTES,
         )
+    }
+
+    pub fn transition_buffers(
+        &mut self,
+        scratch: &mut Scratch,
+        barriers: &[BufferBarrier],
+    ) -> Result<(), Fault>
+        ensures lent { scratch.new.entries.ghost_name ≡ scratch.old.entries.ghost_name }
+        ensures kept { Kept scratch.old.mark.fill scratch.new.mark.fill scratch.old.entries.now scratch.new.entries.now }
+        ensures does { Does (pass_scene self.old.pass self.old.null_target (R.Recorder.meaning self.old.recorder)) (quiet (transition_call (changes_of (λ u. buffer u.bits) barriers.now) (length scratch.old.entries.now) scratch.old.mark.fill)) (answered result) (pass_scene self.new.pass self.new.null_target (R.Recorder.meaning self.new.recorder)) }
+    {
+        transition(&mut self.recorder, scratch, barriers)
+    }
+
+    pub fn transition_textures(
+        &mut self,
+        scratch: &mut Scratch,
+        barriers: &[TextureBarrier],
+    ) -> Result<(), Fault>
+        ensures lent { scratch.new.entries.ghost_name ≡ scratch.old.entries.ghost_name }
+        ensures kept { Kept scratch.old.mark.fill scratch.new.mark.fill scratch.old.entries.now scratch.new.entries.now }
+        ensures does { Does (pass_scene self.old.pass self.old.null_target (R.Recorder.meaning self.old.recorder)) (quiet (transition_call (changes_of (λ u. texture u.bits) barriers.now) (length scratch.old.entries.now) scratch.old.mark.fill)) (answered result) (pass_scene self.new.pass self.new.null_target (R.Recorder.meaning self.new.recorder)) }
+    {
+        transition(&mut self.recorder, scratch, barriers)
+    }
+
+    // The end of the pass.
+    pub fn end_compute_pass(self) -> Result<Recording<R>, Refusal<ComputePass<R>>>
+        ensures { MatchResult result (λ p. Does (pass_scene self.pass self.null_target (R.Recorder.meaning self.recorder)) (ending Compute) taken (list_scene p.null_target (R.Recorder.meaning p.recorder))) (λ e. Does (pass_scene self.pass self.null_target (R.Recorder.meaning self.recorder)) (ending Compute) (refused e.fault) (pass_scene e.phase.pass e.phase.null_target (R.Recorder.meaning e.phase.recorder))) }
+    {
+        let ComputePass {
+            mut recorder,
+            null_target,
+            pass,
+        } = self;
+        match record_ending(&mut recorder, pass.has_label) {
+            Ok(()) => Ok(Recording {
+                recorder,
+                null_target,
+            }),
+            Err(fault) => Err(Refusal {
+                phase: ComputePass {
+                    recorder,
+                    null_target,
+                    pass,
+                },
+                fault,
+            }),
+        }
+    }
+
+    // The list is given up with its pass.
+    pub fn discard_encoding(self) -> Idle<R>
+        ensures { Does (pass_scene self.pass self.null_target (R.Recorder.meaning self.recorder)) discard_encoding taken (idle_scene result.null_target (R.Recorder.meaning result.recorder)) }
+    {
+        let ComputePass {
+            recorder,
+            null_target,
+            pass: _,
+        } = self;
+        Idle {
+            recorder,
+            null_target,
+        }
     }
 }

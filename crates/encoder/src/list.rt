@@ -1,16 +1,20 @@
-// The calls of a list outside of passes, but for the openings.
-ghost use Rattle.std.specs.Prelude.{◌≡◌, length};
+// The calls of a list outside of passes.
+ghost use Rattle.std.specs.Prelude.{◌≡◌, length, MatchResult, option_map};
 ghost use Rattle.resources.specs.Batches.{Kept};
 ghost use Rattle.resources.specs.Listed.{changes_of};
 ghost use Rattle.resources.specs.Usages.{buffer, texture};
-ghost use Rattle.encoder.specs.Opening.{transition as transition_call};
-ghost use Rattle.encoder.specs.Scenes.{begin_encoding, end_encoding, discard_encoding, quiet, taken, Does};
+ghost use Rattle.encoder.specs.Opening.{render_pass, compute_pass, transition as transition_call};
+ghost use Rattle.encoder.specs.Scenes.{begin_encoding, end_encoding, discard_encoding, opening, quiet, taken, refused, Does};
 ghost use Rattle.encoder.specs.Handled.{answered};
 ghost use Rattle.encoder.specs.Phases.{idle_scene, list_scene, pass_scene};
 
-use crate::phase::{ComputePass, Idle, Recording, RenderPass};
+use crate::attachment::ColorAttachment;
+use crate::opening::{open_compute, open_render};
+use crate::phase::{ComputePass, Idle, Recording, Refusal, RenderPass};
+use command_list::command::Half;
 use command_list::fault::Fault;
 use device::recorder::Recorder;
+use passes::state::PassState;
 use resources::barrier::{BufferBarrier, TextureBarrier};
 use resources::batch::transition;
 use resources::scratch::Scratch;
@@ -104,6 +108,63 @@ impl<R: Recorder> Recording<R> {
         Idle {
             recorder,
             null_target,
+        }
+    }
+
+    // The opening of a render pass: a label's bytes, if it has one, its targets' extent, and its attachments, of which
+    // some may be left out.
+    pub fn begin_render_pass(
+        self,
+        label: Option<&[u8]>,
+        width: u32,
+        height: u32,
+        attachments: &[Option<ColorAttachment>],
+    ) -> Result<RenderPass<R>, Refusal<Recording<R>>>
+        ensures { MatchResult result (λ p. Does (list_scene self.null_target (R.Recorder.meaning self.recorder)) (opening (render_pass (option_map (λ b. b.now) label.entry) width height attachments.now)) taken (pass_scene p.pass p.null_target (R.Recorder.meaning p.recorder))) (λ e. Does (list_scene self.null_target (R.Recorder.meaning self.recorder)) (opening (render_pass (option_map (λ b. b.now) label.entry) width height attachments.now)) (refused e.fault) (list_scene e.phase.null_target (R.Recorder.meaning e.phase.recorder))) }
+    {
+        let Recording {
+            mut recorder,
+            null_target,
+        } = self;
+        match open_render(&mut recorder, null_target, label, width, height, attachments) {
+            Ok(()) => Ok(RenderPass {
+                recorder,
+                null_target,
+                pass: PassState::new(Half::Graphics, label.is_some()),
+            }),
+            Err(fault) => Err(Refusal {
+                phase: Recording {
+                    recorder,
+                    null_target,
+                },
+                fault,
+            }),
+        }
+    }
+
+    pub fn begin_compute_pass(
+        self,
+        label: Option<&[u8]>,
+    ) -> Result<ComputePass<R>, Refusal<Recording<R>>>
+        ensures { MatchResult result (λ p. Does (list_scene self.null_target (R.Recorder.meaning self.recorder)) (opening (compute_pass (option_map (λ b. b.now) label.entry))) taken (pass_scene p.pass p.null_target (R.Recorder.meaning p.recorder))) (λ e. Does (list_scene self.null_target (R.Recorder.meaning self.recorder)) (opening (compute_pass (option_map (λ b. b.now) label.entry))) (refused e.fault) (list_scene e.phase.null_target (R.Recorder.meaning e.phase.recorder))) }
+    {
+        let Recording {
+            mut recorder,
+            null_target,
+        } = self;
+        match open_compute(&mut recorder, label) {
+            Ok(()) => Ok(ComputePass {
+                recorder,
+                null_target,
+                pass: PassState::new(Half::Compute, label.is_some()),
+            }),
+            Err(fault) => Err(Refusal {
+                phase: Recording {
+                    recorder,
+                    null_target,
+                },
+                fault,
+            }),
         }
     }
 }

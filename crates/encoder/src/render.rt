@@ -1,13 +1,15 @@
 // The calls of a render pass.
-ghost use Rattle.std.specs.Prelude.{slice_index};
+ghost use Rattle.std.specs.Prelude.{MatchResult, slice_index};
+ghost use Rattle.command_list.specs.declared.command.Half.TheVariants.{Graphics};
 ghost use Rattle.passes.specs.Calls.{set_bind_group, set_immediates, set_render_pipeline, set_vertex_buffer, draw, draw_indirect};
 ghost use Rattle.encoder.specs.Opening.{set_viewport, set_scissor_rect};
-ghost use Rattle.encoder.specs.Scenes.{quiet, set, drawing, Does};
+ghost use Rattle.encoder.specs.Scenes.{discard_encoding, ending, quiet, set, drawing, taken, refused, Does};
 ghost use Rattle.encoder.specs.Handled.{answered};
-ghost use Rattle.encoder.specs.Phases.{pass_scene};
+ghost use Rattle.encoder.specs.Phases.{idle_scene, list_scene, pass_scene};
 
 use crate::draw::{INDIRECT_BYTES, record_draw};
-use crate::phase::RenderPass;
+use crate::opening::record_ending;
+use crate::phase::{Idle, Recording, Refusal, RenderPass};
 use crate::pipeline::record_render_pipeline;
 use bindings::binding::BufferBinding;
 use bindings::constants::SpecialConstants;
@@ -119,5 +121,45 @@ impl<R: Recorder> RenderPass<R> {
             command,
             INDIRECT_BYTES,
         )
+    }
+
+    // The end of the pass.
+    pub fn end_render_pass(self) -> Result<Recording<R>, Refusal<RenderPass<R>>>
+        ensures { MatchResult result (λ p. Does (pass_scene self.pass self.null_target (R.Recorder.meaning self.recorder)) (ending Graphics) taken (list_scene p.null_target (R.Recorder.meaning p.recorder))) (λ e. Does (pass_scene self.pass self.null_target (R.Recorder.meaning self.recorder)) (ending Graphics) (refused e.fault) (pass_scene e.phase.pass e.phase.null_target (R.Recorder.meaning e.phase.recorder))) }
+    {
+        let RenderPass {
+            mut recorder,
+            null_target,
+            pass,
+        } = self;
+        match record_ending(&mut recorder, pass.has_label) {
+            Ok(()) => Ok(Recording {
+                recorder,
+                null_target,
+            }),
+            Err(fault) => Err(Refusal {
+                phase: RenderPass {
+                    recorder,
+                    null_target,
+                    pass,
+                },
+                fault,
+            }),
+        }
+    }
+
+    // The list is given up with its pass.
+    pub fn discard_encoding(self) -> Idle<R>
+        ensures { Does (pass_scene self.pass self.null_target (R.Recorder.meaning self.recorder)) discard_encoding taken (idle_scene result.null_target (R.Recorder.meaning result.recorder)) }
+    {
+        let RenderPass {
+            recorder,
+            null_target,
+            pass: _,
+        } = self;
+        Idle {
+            recorder,
+            null_target,
+        }
     }
 }
