@@ -1,12 +1,12 @@
 -- What an opening asks of its label.
-use Rattle.std.proofs.Common.{◌≡◌, ℕ, ◌<◌, ◌≤◌, Bool, true, false, ◌&&◌, ◌||◌, leb, ltb, ◌⊎◌, List, [], ◌∷◌, ◌++◌, length, Some, None, Err, Option, Result, sym, refl, ap, ap₂, ◌∙◌, subst, ⊎_elim, inl, inr, arith, length-append}
+use Rattle.std.proofs.Common.{◌≡◌, ℕ, ◌<◌, ◌≤◌, Bool, true, false, ◌&&◌, ◌||◌, leb, ltb, List, [], ◌∷◌, ◌++◌, length, Some, None, Err, Option, Result, sym, refl, ap, ap₂, ◌∙◌, subst, ⊎_elim, inl, inr, arith, length-append}
 use Rattle.std.proofs.lemmas.Bool.{true≢false, and_from, and_parts, or_cases, le-leb, leb-true, lt-leb, lt-ltb, ltb-true, eq-eqb, eqb-true}
 use Rattle.std.specs.Str.{chars}
 use Rattle.command_list.specs.declared.fault.Fault.{Fault}
 use Rattle.command_list.specs.declared.fault.Number.TheVariants as number
 use Rattle.command_list.specs.Commands.{Command, BeginEvent, SetDescriptorHeaps}
 use Rattle.device.specs.Meaning.{Meaning}
-use Rattle.labels.specs.Unicode.{Scalar, Scalars, utf8s, utf16s, WellFormed}
+use Rattle.labels.specs.Unicode.{Scalars, utf8s, utf16s, WellFormed}
 use Rattle.labels.specs.Labels.{Labelled, Refused, label_units}
 use Rattle.labels.proofs.Texts.{encoded_once}
 use Rattle.bindings.specs.Extents.{InExtent}
@@ -34,7 +34,7 @@ scalars_test : (cs : List ℕ) → Scalars cs → are_scalars cs ≡ true
 scalars_test [] s = refl
 scalars_test (c ∷ cs) s = and_from _ _
     (⊎_elim (λ l. ap (λ b. b || (leb 0xE000 c && ltb c 0x110000)) (lt-ltb c 0xD800 l))
-      (λ l. or_right _ _ (and_from _ _ (le-leb 0xE000 c l.0) (lt-ltb c 0x110000 l.1))) s.0)
+    (λ l. or_right _ _ (and_from _ _ (le-leb 0xE000 c l.0) (lt-ltb c 0x110000 l.1))) s.0)
     (scalars_test cs s.1)
   where
     or_right : (x y : Bool) → y ≡ true → (x || y) ≡ true
@@ -64,7 +64,7 @@ pub label_refused : (bs : List ℕ) (f : Fault) (x : Option Fault) → Refused b
 label_refused bs f x r = ⊎_elim
     (λ k. ap (λ t. before (unless t (fault number.Range 0)) (before (unless (is_utf8 bs) (fault number.Text 0)) x)) (lt-leb (length bs) 256 k.1) ∙ ap Some (sym (fault_by f number.Range 0 k.0)))
     (λ k. ap (λ t. before (unless t (fault number.Range 0)) (before (unless (is_utf8 bs) (fault number.Text 0)) x)) (le-leb (length bs) 256 k.1)
-      ∙ ap (λ t. before (unless t (fault number.Text 0)) x) (not_true (is_utf8 bs) (λ e. k.2 (test_formed bs e))) ∙ ap Some (sym (fault_by f number.Text 0 k.0))) r
+    ∙ ap (λ t. before (unless t (fault number.Text 0)) x) (not_true (is_utf8 bs) (λ e. k.2 (test_formed bs e))) ∙ ap Some (sym (fault_by f number.Text 0 k.0))) r
   where
     not_true : (t : Bool) → (t ≡ true → ⊥) → t ≡ false
     not_true true h = absurd (h refl)
@@ -121,7 +121,7 @@ module _ (bs : List ℕ) (o : Option (List ℕ)) (is : o ≡ Some bs) (m : Meani
         offered_as _ _ _ _ m r n
         (sym (ap (λ z. asks_opening null (render_pass z w h os)) is ∙ render_asks null bs w h os few wide high ∙ label_taken bs us _ l))
         (ap (λ z. event_records z ++ frame_records null x y os) a ∙ ap (λ z. event_records us ++ frame_records null z y os) b ∙ ap (λ z. event_records us ++ frame_records null w z os) c
-          ∙ ap (λ z. z ++ frame_records null w h os) (label_event bs us (labelled_some bs us l) l.units) ∙ sym (ap (λ z. opening_records null (render_pass z w h os)) is))
+        ∙ ap (λ z. z ++ frame_records null w h os) (label_event bs us (labelled_some bs us l) l.units) ∙ sym (ap (λ z. opening_records null (render_pass z w h os)) is))
 
   module _ (null : ℕ) where
     pub compute_no : (f : Fault) → Refused bs f → r ≡ Err f → n ≡ m → Offered (asks_opening null (compute_pass o)) (opening_records null (compute_pass o)) m r n

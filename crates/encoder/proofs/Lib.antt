@@ -7,3 +7,4 @@ pub mod Faults
 pub mod Transitions
 pub mod Sizes
 pub mod Labelling
+pub mod Moving

@@ -1,13 +1,13 @@
 -- A transition call, in the words of the barriers and in those of the calls.
-use Rattle.std.proofs.Common.{◌≡◌, ℕ, ◌+◌, ◌<◌, ◌≤◌, Bool, true, false, cond, ◌&&◌, ◌||◌, eqb, leb, ◌⊎◌, List, [], ◌∷◌, length, Some, None, Ok, Err, Option, Result, sym, refl, ap, ◌∙◌, subst, ⊎_elim, arith}
-use Rattle.std.proofs.lemmas.Bool.{true≢false, and_from, and_parts, le-leb, leb-true, eq-eqb, ne_eqb, eqb-true, cases_eq}
+use Rattle.std.proofs.Common.{◌≡◌, ℕ, ◌+◌, Bool, true, false, ◌||◌, eqb, leb, List, length, Some, None, Ok, Err, Option, Result, sym, refl, ap, ◌∙◌, ⊎_elim, arith}
+use Rattle.std.proofs.lemmas.Bool.{and_from, and_parts, le-leb, leb-true, eq-eqb, ne_eqb, cases_eq}
 use Rattle.command_list.specs.declared.command.Barrier.{Barrier}
 use Rattle.command_list.specs.declared.fault.Fault.{Fault}
 use Rattle.command_list.specs.declared.fault.Number.TheVariants as number
-use Rattle.command_list.specs.Seen.{IsFault, number_of}
+use Rattle.command_list.specs.Seen.{number_of}
 use Rattle.device.specs.Meaning.{Meaning}
 use Rattle.passes.proofs.Questions.{some≢none}
-use Rattle.resources.specs.Barriers.{Change, Why, barriers_of, first_from, in_range, present, refused_at, or_else, verdict, answered}
+use Rattle.resources.specs.Barriers.{Change, barriers_of, first_from, in_range, present, refused_at, or_else, verdict, answered}
 use Rattle.resources.specs.Batches.{Takes, Batched, Transitioned, transition_records}
 use Rattle.passes.specs.Calls.{fault, fault_at, unless, before}
 use Rattle.encoder.specs.Opening.{transition, scratch_takes, asks_quiet, quiet_records}
@@ -32,8 +32,8 @@ takes_test : (len fill : ℕ) (es : List Barrier) → Takes len fill es → scra
 takes_test len fill es t =
     and_from (leb len 2048) _ (le-leb len 2048 t.0)
     (⊎_elim (λ z. ap (λ b. b || leb (fill + length es) len) (eq-eqb (length es) 0 z))
-      (λ z. ap (λ b. b || leb (fill + length es) len) (ne_eqb (length es) 0 z) ∙ le-leb (fill + length es) len (t.1 (omega arith)))
-      (cases_eq (length es) 0))
+    (λ z. ap (λ b. b || leb (fill + length es) len) (ne_eqb (length es) 0 z) ∙ le-leb (fill + length es) len (t.1 (omega arith)))
+    (cases_eq (length es) 0))
 
 test_takes : (len fill : ℕ) (es : List Barrier) → scratch_takes len fill (length es) ≡ true → Takes len fill es
 test_takes len fill es e =

@@ -7,7 +7,7 @@ use Rattle.command_list.specs.Commands.{Command}
 use Rattle.device.specs.Meaning.{sizes}
 use Rattle.device.proofs.Runs.{sizes_append}
 use Rattle.layouts.specs.Bits.{bit}
-use Rattle.layouts.proofs.Masks.{Lowest, trailing_lowest, out_here, out_other, out_less, bit_none}
+use Rattle.layouts.proofs.Masks.{trailing_lowest, out_here, out_other, out_less, bit_none}
 use Rattle.passes.specs.Flush.{gathered}
 
 pub gathered_same : (t u : ℕ → Bool) (f : ℕ → List Command) (k n : ℕ) → ((j : ℕ) → k ≤ j → t j ≡ u j) → gathered t f k n ≡ gathered u f k n
@@ -42,12 +42,12 @@ module _ (t u : ℕ → Bool) (f : ℕ → List Command) (i : ℕ) (here : t i �
   first_write (suc n) k l h =
       ⊎_elim (at_first k n)
       (λ ne.
-        let lt : k < i = omega arith in
-        let tf : t k ≡ false = below k lt in
-        let uf : u k ≡ false = others k ne ∙ tf in
-        ap (λ b. cond b (f k) [] ++ gathered t f (k + 1) n) tf
-        ∙ first_write n (k + 1) (omega arith) (omega arith)
-        ∙ ap (λ b. f i ++ (cond b (f k) [] ++ gathered u f (k + 1) n)) (sym uf))
+      let lt : k < i = omega arith in
+      let tf : t k ≡ false = below k lt in
+      let uf : u k ≡ false = others k ne ∙ tf in
+      ap (λ b. cond b (f k) [] ++ gathered t f (k + 1) n) tf
+      ∙ first_write n (k + 1) (omega arith) (omega arith)
+      ∙ ap (λ b. f i ++ (cond b (f k) [] ++ gathered u f (k + 1) n)) (sym uf))
       (cases_eq k i)
 
 -- a mask without its lowest slot
@@ -68,9 +68,9 @@ turn m n h =
     let shl : 2 ^ i ≡ 1 * 2 ^ i % 2 ^ 64 = sym (one_shl i 64 low.0) in
     let out = out_here m i low.1.here in
     let kept : (k : ℕ) → bit (bit_xor m (2 ^ i)) k ≡ true → (bit m k ≡ true) × (i < k) = λ k e.
-        let apart : k ≢ i = λ q. true≢false (sym e ∙ ap (bit (bit_xor m (2 ^ i))) q ∙ out) in
-        let was = sym (out_other m i k apart) ∙ e in
-        (was, ⊎_elim (λ l. absurd (true≢false (sym was ∙ low.1.below k l))) (λ l. omega arith) (cases_lt k i)) in
+    let apart : k ≢ i = λ q. true≢false (sym e ∙ ap (bit (bit_xor m (2 ^ i))) q ∙ out) in
+    let was = sym (out_other m i k apart) ∙ e in
+    (was, ⊎_elim (λ l. absurd (true≢false (sym was ∙ low.1.below k l))) (λ l. omega arith) (cases_lt k i)) in
     record {
       place = low.0;
       here = low.1.here;

@@ -1,5 +1,5 @@
 -- What a call does to an encoder's own state and to its recorder.
-use Rattle.std.specs.Prelude.{◌≡◌, Bool, true, false, List, Ok, Err, Option, Result, nat_le}
+use Rattle.std.specs.Prelude.{◌≡◌, true, false, List, Ok, Err, Option, Result, nat_le}
 use Rattle.command_list.specs.declared.fault.Fault.{Fault}
 use Rattle.command_list.specs.Commands.{Command}
 use Rattle.device.specs.Meaning.{Meaning, Recorded, sizes}

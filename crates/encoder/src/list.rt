@@ -126,7 +126,14 @@ impl<R: Recorder> Recording<R> {
             mut recorder,
             null_target,
         } = self;
-        match open_render(&mut recorder, null_target, label, width, height, attachments) {
+        match open_render(
+            &mut recorder,
+            null_target,
+            label,
+            width,
+            height,
+            attachments,
+        ) {
             Ok(()) => Ok(RenderPass {
                 recorder,
                 null_target,

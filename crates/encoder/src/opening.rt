@@ -38,10 +38,7 @@ fn target(null_target: u64, attachment: &Option<ColorAttachment>) -> u64
 }
 
 // Every target is a handle. Refused: the first that is none, 3 at its index.
-fn check_targets(
-    null_target: u64,
-    attachments: &[Option<ColorAttachment>],
-) -> Result<(), Fault>
+fn check_targets(null_target: u64, attachments: &[Option<ColorAttachment>]) -> Result<(), Fault>
     ensures { fault_of result ≡ fault_at number.Absent (no_target 0 null_target attachments.now) }
 {
     for place in 0..attachments.len() {
@@ -247,10 +244,7 @@ pub(crate) fn open_render<R: Recorder>(
 }
 
 // The opening of a compute pass.
-pub(crate) fn open_compute<R: Recorder>(
-    recorder: &mut R,
-    label: Option<&[u8]>,
-) -> Result<(), Fault>
+pub(crate) fn open_compute<R: Recorder>(recorder: &mut R, label: Option<&[u8]>) -> Result<(), Fault>
     ensures { (null : ℕ) → Offered (asks_opening null (compute_pass (option_map (λ b. b.now) label.entry))) (opening_records null (compute_pass (option_map (λ b. b.now) label.entry))) (R.Recorder.meaning recorder.old) result (R.Recorder.meaning recorder.new) }
 {
     match label {

@@ -38,3 +38,49 @@ pub struct Refusal<P> {
     pub phase: P,
     pub fault: Fault,
 }
+
+impl<R> Idle<R> {
+    pub fn recorder(&self) -> &R
+        ensures { result.now ≡ self.now.recorder }
+    {
+        &self.recorder
+    }
+}
+
+impl<R> Recording<R> {
+    pub fn recorder(&self) -> &R
+        ensures { result.now ≡ self.now.recorder }
+    {
+        &self.recorder
+    }
+}
+
+impl<R> RenderPass<R> {
+    pub fn recorder(&self) -> &R
+        ensures { result.now ≡ self.now.recorder }
+    {
+        &self.recorder
+    }
+
+    // The record of the pass, to be read.
+    pub fn pass(&self) -> &PassState
+        ensures { result.now ≡ self.now.pass }
+    {
+        &self.pass
+    }
+}
+
+impl<R> ComputePass<R> {
+    pub fn recorder(&self) -> &R
+        ensures { result.now ≡ self.now.recorder }
+    {
+        &self.recorder
+    }
+
+    // The record of the pass, to be read.
+    pub fn pass(&self) -> &PassState
+        ensures { result.now ≡ self.now.pass }
+    {
+        &self.pass
+    }
+}

@@ -1,5 +1,5 @@
-use Rattle.std.proofs.Common.{◌≡◌, ◌+◌, [], ◌∷◌, ◌++◌, List, None, ap, sym, ◌∙◌, refl, subst, arith}
-use Rattle.command_list.specs.Commands.{Command, size}
+use Rattle.std.proofs.Common.{[], ◌∷◌, List, ap, sym, ◌∙◌, refl, subst, arith}
+use Rattle.command_list.specs.Commands.{Command}
 use Rattle.command_list.specs.Seen.{fixed_command}
 use Rattle.device.specs.Meaning.{Recorded, sizes}
 use Rattle.device.proofs.Runs.{recorded_then}

@@ -1,6 +1,5 @@
-use Rattle.std.proofs.Common.{[], ◌∷◌, drop, get_or, arith}
+use Rattle.std.proofs.Common.{[], ◌∷◌, get_or, arith}
 use Rattle.command_list.specs.Commands.{SetRoot32BitConstant}
-use Rattle.passes.specs.Flush.{word_commands}
 use Rattle.encoder.proofs.Coming.{coming_next, coming_fits, put_recorded, word_next}
 use Rattle.encoder.proofs.flush.put_words.Goals as goal
 

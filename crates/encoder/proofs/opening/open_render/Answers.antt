@@ -1,4 +1,4 @@
-use Rattle.std.proofs.Common.{Err, option_map, refl, ap, sym, ◌∙◌, subst, arith}
+use Rattle.std.proofs.Common.{Err, option_map, refl, ap, ◌∙◌, arith}
 use Rattle.std.proofs.lemmas.Result.{err_from_is_err_and}
 use Rattle.encoder.proofs.Labelling.{render_no, render_yes}
 use Rattle.encoder.proofs.opening.open_render.Goals as goal

@@ -1,7 +1,7 @@
-use Rattle.std.proofs.Common.{◌≡◌, ℕ, List, ◌+◌, [], ◌∷◌, ◌++◌, map, length, slice_index, sym, refl, ap, ap₂, ◌∙◌, subst, arith}
+use Rattle.std.proofs.Common.{◌≡◌, ℕ, List, [], ◌∷◌, map, slice_index, sym, refl, ap, ap₂, ◌∙◌, subst, arith}
 use Rattle.std.proofs.lemmas.List.{length-map}
-use Rattle.command_list.specs.Commands.{Command, SetDescriptorHeaps, OMSetRenderTargets, RSSetViewports, RSSetScissorRects}
-use Rattle.device.specs.Meaning.{Recorded, sizes}
+use Rattle.command_list.specs.Commands.{RSSetViewports, RSSetScissorRects}
+use Rattle.device.specs.Meaning.{Recorded}
 use Rattle.passes.specs.State.{fault_of}
 use Rattle.encoder.specs.Opening.{target_of}
 use Rattle.encoder.proofs.Coming.{put_recorded}
@@ -68,6 +68,6 @@ returns g c =
     offered_put _ _ (RSSetScissorRects 0 0 c.width.result c.height.result ∷ []) (m a.recorder.now) (m c.put-2.new.recorder) (m c.put-3.new.recorder) c.put-3.result
     (sym c.check_targets.ensures ∙ ap fault_of c.in_ok-check_targets.was) (omega (arith, n, c.event_size.ensures.value, c.clears_size.ensures.value))
     (λ last. render_recorded a.units.now a.null_target a.extent.width a.extent.height a.attachments.now _ _ _ _ _ _ _
-      (put_recorded _ _ _ _ c.put_event.ensures) (put_recorded _ _ _ _ c.put.ensures) (put_recorded _ _ _ _ c.put_targets.ensures) (put_recorded _ _ _ _ c.put_clears.ensures) view
-      (subst (λ x. Recorded (m c.put-2.new.recorder) (x ∷ []) (m c.put-3.new.recorder)) ends last))
+    (put_recorded _ _ _ _ c.put_event.ensures) (put_recorded _ _ _ _ c.put.ensures) (put_recorded _ _ _ _ c.put_targets.ensures) (put_recorded _ _ _ _ c.put_clears.ensures) view
+    (subst (λ x. Recorded (m c.put-2.new.recorder) (x ∷ []) (m c.put-3.new.recorder)) ends last))
     c.put-3.ensures

@@ -1,4 +1,4 @@
-use Rattle.std.proofs.Common.{ltb, sym, refl, ap, arith}
+use Rattle.std.proofs.Common.{sym, refl, ap, arith}
 use Rattle.std.proofs.lemmas.Bool.{lt-ltb, le-ltb}
 use Rattle.command_list.specs.declared.command.Half.TheVariants.{Compute}
 use Rattle.command_list.specs.declared.fault.Number.TheVariants as number

@@ -1,5 +1,4 @@
 use Rattle.std.proofs.Common.{Some, refl, ap, sym}
-use Rattle.command_list.specs.Commands.{DrawInstanced}
 use Rattle.passes.specs.Calls.{draw}
 use Rattle.encoder.specs.Scenes.{pass_draws}
 use Rattle.encoder.proofs.Handling.{does_draw, renders}
