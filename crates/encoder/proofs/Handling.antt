@@ -1,13 +1,13 @@
 -- How a call inside a pass is shown to do what it should.
 use Rattle.std.proofs.Common.{◌≡◌, ℕ, ◌^◌, ◌&&◌, Bool, ltb, ◌<◌, ◌≤◌, subst, Result, true, false, cond, leb, ◌+◌, List, [], ◌∷◌, ◌++◌, arith, Some, None, Ok, Err, Option, sym, refl, ap, ap₂, ◌∙◌, ⊎_elim}
-use Rattle.std.proofs.lemmas.Bool.{cases_lt, and_from, and_parts, lt-ltb, ltb-true, true≢false, false≢true, le-leb, lt-leb}
+use Rattle.std.proofs.lemmas.Bool.{cond_both, cases_lt, and_from, and_parts, lt-ltb, ltb-true, true≢false, false≢true, le-leb, lt-leb}
 use Rattle.command_list.specs.declared.fault.Fault.{Fault}
 use Rattle.command_list.specs.declared.fault.Number.TheVariants as number
 use Rattle.command_list.specs.Commands.{Command, size, readable}
 use Rattle.device.specs.Meaning.{Meaning, Anew, Recorded, Asked, sizes}
 use Rattle.device.proofs.Runs.{sizes_append, recorded_none}
-use Rattle.passes.specs.Account.{Account, with_roots}
-use Rattle.passes.specs.Calls.{SetCall, DrawCall, fault, unless, before, asks_set, after_set, set_records, drawable, buffer_there, own_constants, own_command, prepared_by, marked}
+use Rattle.passes.specs.Account.{Account, Bound, with_roots, own_slot, current_special, constants_at, is_constants, untouched, emptied, views_untouched}
+use Rattle.passes.specs.Calls.{SetCall, DrawCall, fault, unless, before, asks_set, after_set, set_records, drawable, buffer_there, own_constants, own_command, prepared, prepared_by, by_own, wiped_slot, after_draw, marked}
 use Rattle.passes.specs.Flush.{flushed}
 use Rattle.bindings.specs.declared.constants.SpecialConstants.{SpecialConstants as Constants}
 use Rattle.command_list.specs.declared.command.Half.{Half}
@@ -137,6 +137,23 @@ pub does_pipeline : (c : SetCall) (a b : Account) (null : ℕ) (m n : Meaning) (
     → Handled (asks_set c a.roots.layout) (set_records c a) (after_set c a) a m r b n → Does (scene (in_pass a) null m) (set c) (answered r) (scene (in_pass b) null n)
 does_pipeline c a b null m n r offered h = does_handled a b (after_set c a) null m n (set c) (asks_set c a.roots.layout) (set_records c a) r offered refl refl refl refl h
 
+-- a draw's constants leave the layout
+prepared_layout : (o : Option Constants) (b : Bound) → (prepared_by o b).layout ≡ b.layout
+prepared_layout o b = cond_both (by_own o (own_slot b.layout)) b _ (λ x. x.layout ≡ b.layout) (λ _. refl) (λ _. constants_layout (current_special b.layout) _)
+  where
+    constants_layout : (k : Option ℕ) (s : Constants) → (constants_at k s b).layout ≡ b.layout
+    constants_layout None s = refl
+    constants_layout (Some i) s = cond_both (is_constants s (b.elements i)) b _ (λ x. x.layout ≡ b.layout) (λ _. refl) (λ _. refl)
+
+after_marked : (c : DrawCall) (a : Account) → marked (own_constants c) (with_roots (prepared c a.roots) a) ≡ after_draw c a
+after_marked c a = ap (λ l. record {
+    half = a.half;
+    labelled = a.labelled;
+    pipeline = a.pipeline;
+    roots = untouched (emptied (wiped_slot (own_constants c) l) (prepared c a.roots));
+    vertices = views_untouched a.vertices;
+  }) (prepared_layout (own_constants c) a.roots)
+
 -- a draw of a pass that has it
 module _ (c : DrawCall) (a b : Account) (null : ℕ) (m n : Meaning) (r : Result Unit Fault) (own : Option Constants) (cmd : Command)
     (offered : pass_draws a.half c ≡ true) (there : buffer_there c ≡ true) (own_is : own_constants c ≡ own) (cmd_is : own_command c a.roots.layout ≡ cmd) where
@@ -147,7 +164,7 @@ module _ (c : DrawCall) (a b : Account) (null : ℕ) (m n : Meaning) (r : Result
       offered
       (ap (λ t. before (unless t (fault number.Absent 0)) (drawable a.pipeline a.roots.layout a.roots.elements)) there)
       (ap₂ (λ o x. flushed a.half (prepared_by o a.roots) a.vertices ++ (x ∷ [])) own_is cmd_is)
-      (ap (λ o. in_pass (marked o (with_roots (prepared_by o a.roots) a))) own_is)
+      (sym (ap in_pass (after_marked c a)) ∙ ap (λ o. in_pass (marked o (with_roots (prepared_by o a.roots) a))) own_is)
       refl h
 
 -- its buffer is none

@@ -20,7 +20,7 @@ use Rattle.bindings.specs.Constants.{constants}
 use Rattle.bindings.specs.Bindings.{address_of, size_of}
 use Rattle.passes.specs.declared.element.RootElement.{RootElement}
 use Rattle.passes.specs.declared.element.RootElement.TheVariants.{Immediates}
-use Rattle.passes.specs.Account.{Bound, Views, Pipeline, Account, with_roots, filled, filled_from, switched, switch_touches, is_current, overwritten, with_immediates, group_elements, zeros, constants_at, constants_touch, current_special, own_slot, emptied, untouched, rebased, strided, restrides, strides_of, views_untouched, unfit}
+use Rattle.passes.specs.Account.{Bound, Views, Pipeline, Account, filled, filled_from, switched, switch_touches, is_current, overwritten, with_immediates, group_elements, zeros, constants_at, constants_touch, current_special, own_slot, emptied, untouched, rebased, strided, restrides, strides_of, views_untouched, unfit}
 use Rattle.passes.specs.Flush.{flushed}
 
 -- ---- setting
@@ -171,7 +171,17 @@ abbrev pub wiped_slot : Option Constants → Option PipelineLayout → Option �
 wiped_slot (Some s) l = None
 wiped_slot None l = own_slot l
 
--- nothing is touched any more, and nothing is known of what an indirect call wiped
+-- the account behind a draw: nothing is touched, and nothing is known of what an indirect call wiped
+abbrev pub after_draw : DrawCall → Account → Account
+after_draw c a = record {
+  half = a.half;
+  labelled = a.labelled;
+  pipeline = a.pipeline;
+  roots = untouched (emptied (wiped_slot (own_constants c) a.roots.layout) (prepared c a.roots));
+  vertices = views_untouched a.vertices;
+}
+
+-- a mark alone, of a draw whose constants were put before it
 abbrev pub marked : Option Constants → Account → Account
 marked o a = record {
   half = a.half;
@@ -180,10 +190,6 @@ marked o a = record {
   roots = untouched (emptied (wiped_slot o a.roots.layout) a.roots);
   vertices = views_untouched a.vertices;
 }
-
--- the account behind a draw
-abbrev pub after_draw : DrawCall → Account → Account
-after_draw c a = marked (own_constants c) (with_roots (prepared c a.roots) a)
 
 -- the draw's own record
 abbrev pub own_command : DrawCall → Option PipelineLayout → Command

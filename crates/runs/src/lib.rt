@@ -1,4 +1,6 @@
 // Whole runs of an encoder.
 #![tactic(auto)]
 
+pub mod call;
 pub mod laws;
+pub mod phase;
