@@ -33,7 +33,8 @@ abbrev pub Transitioned : Meaning → ℕ → ℕ → List Change → Result Uni
 Transitioned m len fill cs r n =
     ((verdict cs ≡ None) × Batched m len fill (barriers_of cs) r n) ⊎ (((verdict cs ≡ None) → ⊥) × (answered r ≡ verdict cs) × (n ≡ m))
 
--- the host's part of a scratch: the fill, and the entries below it
+-- the host's part of a scratch: the fill, how many entries there are, and those below the fill
 pub record Kept (fill fill' : ℕ) (entries entries' : List Barrier) : Type 0 where
   pub same : fill' ≡ fill
+  pub long : length entries' ≡ length entries
   pub below : take fill entries' ≡ take fill entries
