@@ -10,3 +10,4 @@ pub mod Viewing
 pub mod Accepted
 pub mod Law
 pub mod Excluding
+pub mod Away

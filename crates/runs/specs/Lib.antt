@@ -1,3 +1,4 @@
 pub mod Marks
 pub mod Excluded
 pub mod Offering
+pub mod Driven

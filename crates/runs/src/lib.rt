@@ -2,5 +2,6 @@
 #![tactic(auto)]
 
 pub mod call;
+pub mod drive;
 pub mod laws;
 pub mod phase;

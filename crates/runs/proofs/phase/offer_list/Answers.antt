@@ -1,0 +1,18 @@
+use Rattle.std.proofs.Common.{length, refl}
+use Rattle.passes.specs.State.{account}
+use Rattle.encoder.specs.Scenes.{idle, recording, in_pass}
+use Rattle.encoder.proofs.Answered.{does_nothing}
+use Rattle.runs.specs.Offering.{call_of}
+use Rattle.runs.proofs.Away.{away_list}
+use Rattle.runs.proofs.phase.offer_list.Goals as goal
+
+pub returns-in_default : goal.returns-in_default
+returns-in_default g c =
+    let a = c.args in
+    let len = length a.scratch.now.entries.now in
+    let fill = a.scratch.now.mark.fill in
+    record {
+      lent = refl;
+      kept = record { same = refl; long = refl; below = refl };
+      does = does_nothing _ (call_of len fill a.call) _ (away_list len fill a.call c.in_default.not-EndEncoding c.in_default.not-DiscardEncoding c.in_default.not-TransitionBuffers c.in_default.not-TransitionTextures c.in_default.not-BeginRenderPass c.in_default.not-BeginComputePass) refl;
+    }
