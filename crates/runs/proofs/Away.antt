@@ -1,5 +1,5 @@
 -- Calls that a phase does not have.
-use Rattle.std.proofs.Common.{◌≡◌, ℕ, true, false, List, Option, refl, ap, ◌∙◌, sym, Bor}
+use Rattle.std.proofs.Common.{◌≡◌, ℕ, true, false, List, Option, refl, ap, ◌∙◌, Bor}
 use Rattle.command_list.specs.declared.command.Half.{Half}
 use Rattle.command_list.specs.declared.command.Half.TheVariants.{Graphics, Compute}
 use Rattle.layouts.specs.declared.layout.PipelineLayout.{PipelineLayout}

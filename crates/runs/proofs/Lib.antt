@@ -11,3 +11,4 @@ pub mod Accepted
 pub mod Law
 pub mod Excluding
 pub mod Away
+pub mod Driving

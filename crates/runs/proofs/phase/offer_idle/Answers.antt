@@ -1,6 +1,4 @@
-use Rattle.std.proofs.Common.{length, refl}
-use Rattle.passes.specs.State.{account}
-use Rattle.encoder.specs.Scenes.{idle, recording, in_pass}
+use Rattle.std.proofs.Common.{refl}
 use Rattle.encoder.proofs.Answered.{does_nothing}
 use Rattle.runs.specs.Offering.{call_of}
 use Rattle.runs.proofs.Away.{away_idle}
