@@ -73,12 +73,6 @@ nth_entries (suc n) (suc i) at bs es h e =
     ∙ nth_entries n i (at + 1 + 4 + 4 + 4 + 4) bs b.0 (omega arith) b.1
     ∙ ap (λ l. slice_get l (suc i)) (some_same b.2)
 
-pub nth_entry : (i : ℕ) (bs : List ℕ) (es : List Barrier) → i < length bs / 17 → barriers (entry_numbers bs) ≡ Some es → entry_at (17 * i) bs ≡ slice_get es i
-nth_entry i bs es h e = ap (λ k. entry_at k bs) (omega arith) ∙ nth_entries (length bs / 17) i 0 bs es h e
-
-pub past_entry : (i : ℕ) (bs : List ℕ) (es : List Barrier) → length bs / 17 ≤ i → barriers (entry_numbers bs) ≡ Some es → None ≡ slice_get es i
-past_entry i bs es h e = sym (slice_get_past es i (let l = count_barriers (length bs / 17) 0 bs es e in omega arith))
-
 pub count_every : (w : ℕ) (bs : List ℕ) (xs : List ℕ) → Some (every w bs) ≡ Some xs → length bs / w ≡ length xs
 count_every w bs xs e = sym (length_every w bs) ∙ ap length (some_same e)
 
@@ -92,10 +86,10 @@ pub count_entries : (bs : List ℕ) (xs : List Barrier) → barriers (entry_numb
 count_entries bs xs e = sym (count_barriers (length bs / 17) 0 bs xs e)
 
 pub turn_entries : (bs : List ℕ) (xs : List Barrier) (i : ℕ) → barriers (entry_numbers bs) ≡ Some xs → i < length bs / 17 → entry_at (17 * i) bs ≡ slice_get xs i
-turn_entries bs xs i e h = nth_entry i bs xs h e
+turn_entries bs xs i e h = ap (λ k. entry_at k bs) (omega arith) ∙ nth_entries (length bs / 17) i 0 bs xs h e
 
 pub end_entries : (bs : List ℕ) (xs : List Barrier) (i : ℕ) → barriers (entry_numbers bs) ≡ Some xs → length bs / 17 ≤ i → None ≡ slice_get xs i
-end_entries bs xs i e h = past_entry i bs xs h e
+end_entries bs xs i e h = sym (slice_get_past xs i (let l = count_entries bs xs e in omega arith))
 
 all_some : {A : Type 0} (f : ℕ → A) (ns : List ℕ) → list_all (λ i. is_some (Some (f i))) ns ≡ true
 all_some f [] = refl
