@@ -1,12 +1,8 @@
 -- Runs of commands, one behind the other.
-use Rattle.std.proofs.Common.{◌≡◌, ◌+◌, List, [], ◌∷◌, ◌++◌, Some, None, Option, sym, refl, ap, ◌∙◌, append_assoc, arith}
+use Rattle.std.proofs.Common.{◌≡◌, ◌+◌, List, [], ◌∷◌, ◌++◌, Some, None, Option, sym, refl, ap, ◌∙◌, append_assoc, append-nil, arith}
 use Rattle.command_list.specs.Commands.{Command}
 use Rattle.device.specs.Devices.{Device, step, play}
 use Rattle.device.specs.Meaning.{Meaning, sizes, shown_more, Recorded}
-
-append-nil : (bs : List Command) → bs ++ [] ≡ bs
-append-nil [] = refl
-append-nil (b ∷ bs) = ap (λ x. b ∷ x) (append-nil bs)
 
 pub play_append : (bs cs : List Command) (d : Device) → play (bs ++ cs) d ≡ play cs (play bs d)
 play_append [] cs d = refl

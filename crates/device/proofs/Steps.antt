@@ -103,7 +103,7 @@ step_vertex_writes (DrawInstanced a b c e) d = refl
 step_vertex_writes (Dispatch x y z) d = refl
 step_vertex_writes (ExecuteIndirect h s n b o) d = refl
 
-signed_writes : (s : ℕ) (r : Roots) → (signed s r).writes ≡ r.writes
+pub signed_writes : (s : ℕ) (r : Roots) → (signed s r).writes ≡ r.writes
 signed_writes s r = elim (eqb r.signature s) as (λ b. (cond b r (record { signature = s; slots = λ i. unset; writes = r.writes })).writes ≡ r.writes) [ true ↦ refl | false ↦ refl ]
 
 wiped_writes : (s : Option ℕ) (r : Roots) → (wiped s r).writes ≡ r.writes
