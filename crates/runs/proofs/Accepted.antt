@@ -8,6 +8,7 @@ use Rattle.device.specs.Devices.{Device, Roots, step, play}
 use Rattle.device.specs.Meaning.{Meaning}
 use Rattle.device.proofs.Runs.{play_append}
 use Rattle.device.proofs.Steps.{step_root_writes}
+use Rattle.device.proofs.Quiets.{Still, quiet_played}
 use Rattle.layouts.specs.declared.layout.PipelineLayout.{PipelineLayout}
 use Rattle.passes.specs.Account.{Account, own_slot}
 use Rattle.passes.specs.Calls.{SetCall, set_bind_group, set_immediates, set_render_pipeline, set_compute_pipeline, set_vertex_buffer, addresses, set_roots, set_pipeline, set_records, asks_set, DrawCall, draw, draw_indirect, dispatch, dispatch_indirect, own_constants, prepared, wiped_slot, after_draw, own_command, draw_records, asks_draw}
@@ -15,7 +16,7 @@ use Rattle.passes.specs.Flush.{flushed}
 use Rattle.encoder.specs.Opening.{half_of, is_labelled, label_of, quiet_records}
 use Rattle.encoder.specs.Scenes.{Call, begin_encoding, end_encoding, discard_encoding, opening, ending, quiet, set, drawing, Stage, idle, recording, in_pass, account_of, pass_draws, offers, next, records, asks, start_of}
 use Rattle.runs.specs.Marks.{Moment, is_opening, is_mark, touches, touches_vertex}
-use Rattle.runs.proofs.Quiets.{Still, quiet_played, quiet_quiet}
+use Rattle.runs.proofs.Quiets.{quiet_quiet}
 use Rattle.runs.proofs.Flushes.{flush_played}
 use Rattle.passes.proofs.Questions.{group_asked, immediates_asked, render_asked, compute_asked, draw_asked}
 use Rattle.runs.proofs.Agreeing.{Agree, agree_opened, agree_device, agree_group, agree_immediates}

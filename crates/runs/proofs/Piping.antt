@@ -7,13 +7,13 @@ use Rattle.command_list.specs.declared.command.Half.TheVariants.{Graphics, Compu
 use Rattle.command_list.specs.Commands.{Command, SetRootSignature, SetPipelineState}
 use Rattle.device.specs.Devices.{Device, Roots, unset, signed, step, play}
 use Rattle.device.proofs.Steps.{signed_writes}
+use Rattle.device.proofs.Quiets.{are_quiet, Still, quiet_played}
 use Rattle.layouts.specs.declared.layout.PipelineLayout.{PipelineLayout}
 use Rattle.passes.specs.Account.{Bound, Pipeline, is_current, renewed, switched}
 use Rattle.passes.specs.Calls.{is_signed, signature_first, asks_layout}
 use Rattle.passes.specs.Flush.{value_at, Holds}
 use Rattle.runs.specs.Marks.{other}
 use Rattle.runs.proofs.Slots.{Rooted, rooted_one}
-use Rattle.runs.proofs.Quiets.{are_quiet, Still, quiet_played}
 use Rattle.passes.proofs.Questions.{current_layout}
 use Rattle.runs.proofs.Agreeing.{Agree, agree_renewed, same_signature}
 
