@@ -5,15 +5,14 @@ use Rattle.std.proofs.lemmas.Option.{same_Some}
 use Rattle.command_list.specs.declared.command.Half.{Half}
 use Rattle.command_list.specs.declared.command.Half.TheVariants.{Graphics, Compute}
 use Rattle.command_list.specs.Commands.{Command, SetRootSignature, SetPipelineState}
-use Rattle.device.specs.Devices.{Device, Roots, unset, signed, step, play}
+use Rattle.device.specs.Devices.{Device, Roots, unset, signed, other, step, play}
 use Rattle.device.proofs.Steps.{signed_writes}
 use Rattle.device.proofs.Quiets.{are_quiet, Still, quiet_played}
+use Rattle.device.proofs.Slots.{Rooted, rooted_one}
 use Rattle.layouts.specs.declared.layout.PipelineLayout.{PipelineLayout}
 use Rattle.passes.specs.Account.{Bound, Pipeline, is_current, renewed, switched}
 use Rattle.passes.specs.Calls.{is_signed, signature_first, asks_layout}
 use Rattle.passes.specs.Flush.{value_at, Holds}
-use Rattle.runs.specs.Marks.{other}
-use Rattle.runs.proofs.Slots.{Rooted, rooted_one}
 use Rattle.passes.proofs.Questions.{current_layout}
 use Rattle.runs.proofs.Agreeing.{Agree, agree_renewed, same_signature}
 

@@ -4,8 +4,9 @@ use Rattle.std.proofs.lemmas.Bool.{false≢true, cases_eq, cases_Bool, cond_both
 use Rattle.std.proofs.lemmas.Option.{none-some, same_Some}
 use Rattle.command_list.specs.declared.command.Half.{Half}
 use Rattle.command_list.specs.declared.command.Half.TheVariants.{Graphics, Compute}
-use Rattle.device.specs.Devices.{Device, Roots, unset, update, wiped, step}
+use Rattle.device.specs.Devices.{Device, Roots, unset, update, wiped, other, step}
 use Rattle.device.proofs.Updates.{update_here, update_other}
+use Rattle.device.proofs.Slots.{Rooted}
 use Rattle.layouts.specs.declared.layout.PipelineLayout.{PipelineLayout}
 use Rattle.layouts.specs.Layouts.{owner_in}
 use Rattle.layouts.proofs.Wholeness.{whole}
@@ -16,9 +17,7 @@ use Rattle.passes.specs.Account.{Bound, Views, Pipeline, filled, special_slot, p
 use Rattle.passes.specs.Calls.{DrawCall, draw, draw_indirect, dispatch, dispatch_indirect, own_constants, constants_by, by_own, prepared_by, wiped_slot, own_command}
 use Rattle.passes.specs.Flush.{nothing, element_value, value_at, Holds}
 use Rattle.encoder.specs.Scenes.{pass_draws}
-use Rattle.runs.specs.Marks.{other}
 use Rattle.passes.proofs.Fitting.{solid}
-use Rattle.runs.proofs.Slots.{Rooted}
 use Rattle.runs.proofs.Flushes.{Flushed}
 use Rattle.passes.proofs.Questions.{Drawable}
 use Rattle.passes.proofs.Fitting.{special_owner, own_special, current_special_lem, is_special_element, may_be_special, constants_special, value_by, fit_solid, solid_known}
