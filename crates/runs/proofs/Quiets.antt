@@ -1,12 +1,12 @@
 -- Records of the encoder that set nothing a draw is asked for.
-use Rattle.std.proofs.Common.{◌≡◌, ℕ, Bool, true, false, List, [], ◌∷◌, Some, None, Option, refl}
+use Rattle.std.proofs.Common.{◌≡◌, ℕ, true, List, [], ◌∷◌, Some, None, Option, refl}
 use Rattle.std.proofs.lemmas.Bool.{cond_both}
 use Rattle.command_list.specs.declared.command.Barrier.{Barrier}
 use Rattle.device.proofs.Quiets.{are_quiet, quiet_append}
 use Rattle.resources.specs.Barriers.{barriers_of}
 use Rattle.resources.specs.Batches.{transition_records}
 use Rattle.encoder.specs.declared.attachment.ColorAttachment.{ColorAttachment}
-use Rattle.encoder.specs.Opening.{Opening, render_pass, compute_pass, label_records, clears, clear_of, clear_records, opening_records, ending_records, QuietCall, transition, set_viewport, set_scissor_rect, quiet_records}
+use Rattle.encoder.specs.Opening.{Opening, render_pass, compute_pass, label_records, clears, clear_of, clear_records, opening_records, QuietCall, transition, set_viewport, set_scissor_rect, quiet_records}
 
 label_quiet : (o : Option (List ℕ)) → are_quiet (label_records o) ≡ true
 label_quiet None = refl
@@ -23,10 +23,6 @@ pub opening_quiet : (null : ℕ) (o : Opening) → are_quiet (opening_records nu
 opening_quiet null (render_pass label w h targets) =
     quiet_append (label_records label) _ (label_quiet label) (quiet_append (clear_records targets) _ (clears_quiet targets) refl)
 opening_quiet null (compute_pass label) = quiet_append (label_records label) _ (label_quiet label) refl
-
-pub ending_quiet : (labelled : Bool) → are_quiet (ending_records labelled) ≡ true
-ending_quiet true = refl
-ending_quiet false = refl
 
 transition_quiet : (es : List Barrier) → are_quiet (transition_records es) ≡ true
 transition_quiet [] = refl
