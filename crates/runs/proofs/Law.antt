@@ -4,6 +4,7 @@ use Rattle.std.proofs.lemmas.Bool.{false≢true, cases_Bool, and_left}
 use Rattle.command_list.specs.Commands.{Command}
 use Rattle.device.specs.Devices.{Device, Roots, other, step, play}
 use Rattle.device.proofs.Quiets.{quiet_played}
+use Rattle.device.proofs.NoWrites.{Unwritten, still_unwritten}
 use Rattle.passes.specs.Account.{Account}
 use Rattle.passes.specs.Calls.{DrawCall, own_constants, prepared, own_command, draw_records, asks_draw, draw_touches}
 use Rattle.encoder.specs.Opening.{opening_records}
@@ -17,7 +18,7 @@ use Rattle.runs.proofs.Agreeing.{Agree, same_total}
 use Rattle.runs.proofs.Ready.{agree_prepared, known_prepared, own_latest}
 use Rattle.runs.proofs.Following.{Extends, extends_taken, extends_refused, Follows, follows_none, follows_quiet, follows_prepared}
 use Rattle.runs.proofs.Viewing.{FollowsViews, views_none, views_quiet, Viewed, viewed_quiet, viewed_flushed}
-use Rattle.runs.proofs.Accepted.{flush_of, draw_played, draw_ready, draw_current, Sound, sound_taken, Unwritten, still_unwritten, own_unwritten, Since, since_taken}
+use Rattle.runs.proofs.Accepted.{flush_of, draw_played, draw_ready, draw_current, Sound, sound_taken, own_unwritten, Since, since_taken}
 
 -- ---- one call
 

@@ -1,12 +1,12 @@
 -- What a pipeline call records, and that bound elements and the device agree behind it.
-use Rattle.std.proofs.Common.{◌≡◌, ℕ, Bool, true, false, cond, ◌&&◌, eqb, List, [], ◌∷◌, ◌++◌, Some, None, Option, sym, refl, ap, ◌∙◌, subst}
-use Rattle.std.proofs.lemmas.Bool.{false≢true, eqb-true, eq-eqb, and_parts, cond_both, cond-true}
+use Rattle.std.proofs.Common.{◌≡◌, ℕ, Bool, true, false, cond, ◌&&◌, List, [], ◌∷◌, ◌++◌, Some, None, Option, sym, refl, ap, ◌∙◌, subst}
+use Rattle.std.proofs.lemmas.Bool.{false≢true, eqb-true, and_parts, cond_both}
 use Rattle.std.proofs.lemmas.Option.{same_Some}
 use Rattle.command_list.specs.declared.command.Half.{Half}
-use Rattle.command_list.specs.declared.command.Half.TheVariants.{Graphics, Compute}
 use Rattle.command_list.specs.Commands.{Command, SetRootSignature, SetPipelineState}
-use Rattle.device.specs.Devices.{Device, Roots, unset, signed, other, step, play}
-use Rattle.device.proofs.Steps.{signed_writes}
+use Rattle.device.specs.Devices.{Device, Roots, signed, step, play}
+use Rattle.device.proofs.Steps.{signed_writes, signed_signature, signed_kept}
+use Rattle.device.proofs.Updates.{both_halves}
 use Rattle.device.proofs.Quiets.{are_quiet, Still, quiet_played}
 use Rattle.device.proofs.Slots.{Rooted, rooted_one}
 use Rattle.layouts.specs.declared.layout.PipelineLayout.{PipelineLayout}
@@ -15,20 +15,6 @@ use Rattle.passes.specs.Calls.{is_signed, signature_first, asks_layout}
 use Rattle.passes.specs.Flush.{value_at, Holds}
 use Rattle.passes.proofs.Questions.{current_layout}
 use Rattle.runs.proofs.Agreeing.{Agree, agree_renewed, same_signature}
-
-pub both_halves : (h : Half) (P : Half → Type 0) → P h → P (other h) → (g : Half) → P g
-both_halves Graphics P a b Graphics = a
-both_halves Graphics P a b Compute = b
-both_halves Compute P a b Graphics = b
-both_halves Compute P a b Compute = a
-
-signed_signature : (s : ℕ) (r : Roots) → (signed s r).signature ≡ s
-signed_signature s r =
-    cond_both (eqb r.signature s) r (record { signature = s; slots = λ i. unset; writes = r.writes }) (λ (x : Roots). x.signature ≡ s) (λ e. eqb-true r.signature s e) (λ _. refl)
-
-signed_kept : (s : ℕ) (r : Roots) → r.signature ≡ s → (signed s r).slots ≡ r.slots
-signed_kept s r e =
-    ap (λ (x : Roots). x.slots) (cond-true (eqb r.signature s) r (record { signature = s; slots = λ i. unset; writes = r.writes }) (eq-eqb r.signature s e))
 
 -- the pipeline and its signature are set; slots are kept where the signature is the half's own already; nothing is written
 pub record Piped (h : Half) (s handle : ℕ) (d e : Device) : Type 0 where

@@ -5,6 +5,7 @@ use Rattle.std.proofs.lemmas.Option.{none-some, same_Some}
 use Rattle.command_list.specs.declared.command.Half.{Half}
 use Rattle.command_list.specs.declared.command.Half.TheVariants.{Graphics, Compute}
 use Rattle.device.specs.Devices.{Device, Roots, unset, update, wiped, other, step}
+use Rattle.device.proofs.Steps.{wiped_signature}
 use Rattle.device.proofs.Updates.{update_here, update_other}
 use Rattle.device.proofs.Slots.{Rooted}
 use Rattle.layouts.specs.declared.layout.PipelineLayout.{PipelineLayout}
@@ -158,10 +159,6 @@ own_latest (draw first count instance instances) l d = refl
 own_latest (draw_indirect buffer offset count) l d = refl
 own_latest (dispatch x y z) l d = refl
 own_latest (dispatch_indirect buffer offset) l d = refl
-
-wiped_signature : (w : Option ℕ) (r : Roots) → (wiped w r).signature ≡ r.signature
-wiped_signature None r = refl
-wiped_signature (Some i) r = refl
 
 -- nothing is asked of a slot that was wiped, and others hold what they held
 wiped_holds : (h : Half) (w : Option ℕ) (b : Bound) (r : Roots) (k : ℕ) → Holds (value_at h b k) (r.slots k) → Holds (value_at h (untouched (emptied w b)) k) ((wiped w r).slots k)
