@@ -1,21 +1,14 @@
 -- Rows of one width, one behind the other: how many there are, and what stands at each place.
 use Rattle.std.proofs.Common.{◌≡◌, ℕ, zero, suc, ◌+◌, ◌*◌, ◌/◌, ◌<◌, ◌≤◌, ◌&&◌, true, List, [], ◌∷◌, length, is_some, Some, None, Option, sym, refl, ap, ◌∙◌, mul-zero, mul-suc, arith}
 use Rattle.std.specs.List.{slice_get, list_all, range_with_len}
-use Rattle.std.proofs.lemmas.Option.{slice_get_past}
-use Rattle.std.proofs.lemmas.Bool.{false≢true}
+use Rattle.std.proofs.lemmas.Option.{none-some, same_Some, slice_get_past}
 use Rattle.command_list.specs.declared.command.Barrier.{Barrier}
 use Rattle.command_list.specs.Numbers.{number_at, numbers}
 use Rattle.command_list.specs.Decoding.{repeated, type_of, barriers, then}
 use Rattle.command_list.specs.Seen.{every, entry_at, entry_numbers}
 
-pub none_some : {A : Type 0} {a : A} → None ≡ Some a → ⊥
-none_some e = false≢true (ap is_some e)
-
-pub some_same : {A : Type 0} {x y : A} → Some x ≡ Some y → x ≡ y
-some_same p = cc
-
 pub then_is : {A B : Type 0} (o : Option A) (f : A → Option B) (b : B) → then o f ≡ Some b → (a : A) × (o ≡ Some a) × (f a ≡ Some b)
-then_is None f b e = absurd (none_some e)
+then_is None f b e = absurd (none-some _ e)
 then_is (Some a) f b e = (a, refl, e)
 
 pub length_numbers : (ws : List ℕ) (at : ℕ) (bs : List ℕ) → length (numbers ws at bs) ≡ length ws
@@ -34,11 +27,11 @@ five = 1 ∷ 4 ∷ 4 ∷ 4 ∷ 4 ∷ []
 
 -- as many barriers as entries
 pub count_barriers : (n at : ℕ) (bs : List ℕ) (es : List Barrier) → barriers (numbers (repeated n five) at bs) ≡ Some es → length es ≡ n
-count_barriers zero at bs es e = ap length (some_same (sym e))
+count_barriers zero at bs es e = ap length (same_Some _ _ (sym e))
 count_barriers (suc n) at bs es e =
     let a = then_is (type_of (number_at 1 at bs)) _ es e in
     let b = then_is (barriers (numbers (repeated n five) (at + 1 + 4 + 4 + 4 + 4) bs)) _ es a.2 in
-    let same = some_same b.2 in
+    let same = same_Some _ _ b.2 in
     sym (ap length same) ∙ ap suc (count_barriers n (at + 1 + 4 + 4 + 4 + 4) bs b.0 b.1)
 
 -- one of some numbers of equal widths
@@ -65,37 +58,31 @@ nth_entries (suc n) zero at bs es h e =
     ap (λ k. entry_at k bs) (omega arith)
     ∙ ap (λ o. then o (λ k. Some (record { kind = k; resource = number_at 4 (at + 1) bs; subresource = number_at 4 (at + 5) bs; before = number_at 4 (at + 9) bs; after = number_at 4 (at + 13) bs }))) a.1
     ∙ (λ i. Some (record { kind = a.0; resource = number_at 4 (at + 1) bs; subresource = sym p5 i; before = sym p9 i; after = sym p13 i }))
-    ∙ ap (λ l. slice_get l 0) (some_same b.2)
+    ∙ ap (λ l. slice_get l 0) (same_Some _ _ b.2)
 nth_entries (suc n) (suc i) at bs es h e =
     let a = then_is (type_of (number_at 1 at bs)) _ es e in
     let b = then_is (barriers (numbers (repeated n five) (at + 1 + 4 + 4 + 4 + 4) bs)) _ es a.2 in
     ap (λ k. entry_at k bs) (omega arith)
     ∙ nth_entries n i (at + 1 + 4 + 4 + 4 + 4) bs b.0 (omega arith) b.1
-    ∙ ap (λ l. slice_get l (suc i)) (some_same b.2)
-
-pub nth_entry : (i : ℕ) (bs : List ℕ) (es : List Barrier) → i < length bs / 17 → barriers (entry_numbers bs) ≡ Some es → entry_at (17 * i) bs ≡ slice_get es i
-nth_entry i bs es h e = ap (λ k. entry_at k bs) (omega arith) ∙ nth_entries (length bs / 17) i 0 bs es h e
-
-pub past_entry : (i : ℕ) (bs : List ℕ) (es : List Barrier) → length bs / 17 ≤ i → barriers (entry_numbers bs) ≡ Some es → None ≡ slice_get es i
-past_entry i bs es h e = sym (slice_get_past es i (let l = count_barriers (length bs / 17) 0 bs es e in omega arith))
+    ∙ ap (λ l. slice_get l (suc i)) (same_Some _ _ b.2)
 
 pub count_every : (w : ℕ) (bs : List ℕ) (xs : List ℕ) → Some (every w bs) ≡ Some xs → length bs / w ≡ length xs
-count_every w bs xs e = sym (length_every w bs) ∙ ap length (some_same e)
+count_every w bs xs e = sym (length_every w bs) ∙ ap length (same_Some _ _ e)
 
 pub turn_every : (w : ℕ) (bs : List ℕ) (xs : List ℕ) (i : ℕ) → Some (every w bs) ≡ Some xs → i < length bs / w → Some (number_at w (w * i) bs) ≡ slice_get xs i
-turn_every w bs xs i e h = nth_every w i bs h ∙ ap (λ l. slice_get l i) (some_same e)
+turn_every w bs xs i e h = nth_every w i bs h ∙ ap (λ l. slice_get l i) (same_Some _ _ e)
 
 pub end_every : (w : ℕ) (bs : List ℕ) (xs : List ℕ) (i : ℕ) → Some (every w bs) ≡ Some xs → length bs / w ≤ i → None ≡ slice_get xs i
-end_every w bs xs i e h = past_every w i bs h ∙ ap (λ l. slice_get l i) (some_same e)
+end_every w bs xs i e h = past_every w i bs h ∙ ap (λ l. slice_get l i) (same_Some _ _ e)
 
 pub count_entries : (bs : List ℕ) (xs : List Barrier) → barriers (entry_numbers bs) ≡ Some xs → length bs / 17 ≡ length xs
 count_entries bs xs e = sym (count_barriers (length bs / 17) 0 bs xs e)
 
 pub turn_entries : (bs : List ℕ) (xs : List Barrier) (i : ℕ) → barriers (entry_numbers bs) ≡ Some xs → i < length bs / 17 → entry_at (17 * i) bs ≡ slice_get xs i
-turn_entries bs xs i e h = nth_entry i bs xs h e
+turn_entries bs xs i e h = ap (λ k. entry_at k bs) (omega arith) ∙ nth_entries (length bs / 17) i 0 bs xs h e
 
 pub end_entries : (bs : List ℕ) (xs : List Barrier) (i : ℕ) → barriers (entry_numbers bs) ≡ Some xs → length bs / 17 ≤ i → None ≡ slice_get xs i
-end_entries bs xs i e h = past_entry i bs xs h e
+end_entries bs xs i e h = sym (slice_get_past xs i (let l = count_entries bs xs e in omega arith))
 
 all_some : {A : Type 0} (f : ℕ → A) (ns : List ℕ) → list_all (λ i. is_some (Some (f i))) ns ≡ true
 all_some f [] = refl

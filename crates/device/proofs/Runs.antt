@@ -1,16 +1,19 @@
 -- Runs of commands, one behind the other.
-use Rattle.std.proofs.Common.{◌≡◌, ◌+◌, List, [], ◌∷◌, ◌++◌, Some, None, Option, sym, refl, ap, ◌∙◌, append_assoc, arith}
-use Rattle.command_list.specs.Commands.{Command}
+use Rattle.std.proofs.Common.{◌≡◌, ℕ, ◌+◌, ◌≤◌, List, [], ◌∷◌, ◌++◌, Some, None, Option, sym, refl, ap, ◌∙◌, append_assoc, append-nil, arith}
+use Rattle.command_list.specs.Commands.{Command, code_of, byte_of}
 use Rattle.device.specs.Devices.{Device, step, play}
 use Rattle.device.specs.Meaning.{Meaning, sizes, shown_more, Recorded}
-
-append-nil : (bs : List Command) → bs ++ [] ≡ bs
-append-nil [] = refl
-append-nil (b ∷ bs) = ap (λ x. b ∷ x) (append-nil bs)
+use Rattle.device.proofs.Steps.{step_counts}
+use Rattle.device.proofs.Updates.{more_least}
 
 pub play_append : (bs cs : List Command) (d : Device) → play (bs ++ cs) d ≡ play cs (play bs d)
 play_append [] cs d = refl
 play_append (b ∷ bs) cs d = play_append bs cs (step b d)
+
+-- no command lowers a count
+pub counts_rise : (cs : List Command) (d : Device) (k : ℕ) → d.counts k ≤ (play cs d).counts k
+counts_rise [] d k = omega arith
+counts_rise (c ∷ cs) d k = omega (arith, counts_rise cs (step c d) k, ap (λ f. f k) (step_counts c d), more_least d.counts (byte_of (code_of c)) k)
 
 pub sizes_append : (bs cs : List Command) → sizes (bs ++ cs) ≡ sizes bs + sizes cs
 sizes_append [] cs = omega arith

@@ -1,5 +1,6 @@
 -- What a command leaves alone, and which slot it writes.
 use Rattle.std.proofs.Common.{◌≡◌, ℕ, true, false, cond, eqb, Some, None, Option, refl, ap}
+use Rattle.std.proofs.lemmas.Bool.{cond_both, cond-true, eq-eqb, eqb-true}
 use Rattle.command_list.specs.declared.command.Half.{Half}
 use Rattle.command_list.specs.declared.command.Half.TheVariants.{Graphics, Compute}
 use Rattle.command_list.specs.Commands.{Command, code_of, byte_of, BeginEvent, EndEvent, SetDescriptorHeaps, SetRootSignature, SetPipelineState, IASetPrimitiveTopology, IASetVertexBuffers, SetRoot32BitConstant, SetRootDescriptorTable, SetRootConstantBufferView, OMSetRenderTargets, ClearRenderTargetView, RSSetViewports, RSSetScissorRects, ResourceBarrier, DrawInstanced, Dispatch, ExecuteIndirect}
@@ -103,12 +104,25 @@ step_vertex_writes (DrawInstanced a b c e) d = refl
 step_vertex_writes (Dispatch x y z) d = refl
 step_vertex_writes (ExecuteIndirect h s n b o) d = refl
 
-signed_writes : (s : ℕ) (r : Roots) → (signed s r).writes ≡ r.writes
+-- setting a signature writes no slot, and keeps the slots of a half that has it already
+pub signed_writes : (s : ℕ) (r : Roots) → (signed s r).writes ≡ r.writes
 signed_writes s r = elim (eqb r.signature s) as (λ b. (cond b r (record { signature = s; slots = λ i. unset; writes = r.writes })).writes ≡ r.writes) [ true ↦ refl | false ↦ refl ]
+
+pub signed_signature : (s : ℕ) (r : Roots) → (signed s r).signature ≡ s
+signed_signature s r =
+    cond_both (eqb r.signature s) r (record { signature = s; slots = λ i. unset; writes = r.writes }) (λ (x : Roots). x.signature ≡ s) (λ e. eqb-true r.signature s e) (λ _. refl)
+
+pub signed_kept : (s : ℕ) (r : Roots) → r.signature ≡ s → (signed s r).slots ≡ r.slots
+signed_kept s r e =
+    ap (λ (x : Roots). x.slots) (cond-true (eqb r.signature s) r (record { signature = s; slots = λ i. unset; writes = r.writes }) (eq-eqb r.signature s e))
 
 wiped_writes : (s : Option ℕ) (r : Roots) → (wiped s r).writes ≡ r.writes
 wiped_writes None r = refl
 wiped_writes (Some i) r = refl
+
+pub wiped_signature : (w : Option ℕ) (r : Roots) → (wiped w r).signature ≡ r.signature
+wiped_signature None r = refl
+wiped_signature (Some i) r = refl
 
 pub step_root_writes : (k : Half) (c : Command) (d : Device) → ((step c d).halves k).writes ≡ ticked (root_slot k c) (d.halves k).writes
 step_root_writes k (BeginEvent us) d = refl

@@ -65,6 +65,10 @@ abbrev pub wiped : Option ℕ → Roots → Roots
 wiped None r = r
 wiped (Some i) r = record { signature = r.signature; slots = update r.slots i unset; writes = r.writes }
 
+abbrev pub other : Half → Half
+other Graphics = Compute
+other Compute = Graphics
+
 -- the halves with one of them changed
 abbrev pub changed : Half → (Roots → Roots) → (Half → Roots) → Half → Roots
 changed Graphics f hs Graphics = f (hs Graphics)

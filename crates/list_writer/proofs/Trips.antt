@@ -5,6 +5,7 @@ use Rattle.std.specs.List.{flat_map}
 use Rattle.std.proofs.lemmas.Nat.{div-mul-add}
 use Rattle.std.proofs.lemmas.List.{take_all}
 use Rattle.std.proofs.lemmas.Bool.{cond-true, cond-false, eq-eqb, ne_eqb, eqb-true, lt-ltb, ltb-true, leb-true, and_from, and_parts, cases_Bool, false≢true}
+use Rattle.std.proofs.lemmas.Option.{same_Some}
 use Rattle.command_list.specs.declared.command.Half.{Half}
 use Rattle.command_list.specs.declared.command.Half.TheVariants.{Graphics, Compute}
 use Rattle.command_list.specs.declared.command.BarrierType.{BarrierType}
@@ -18,7 +19,7 @@ use Rattle.command_list.specs.Decoding.{shape, sum, length_right, repeated, widt
 use Rattle.command_list.proofs.Places.{number_1}
 use Rattle.list_writer.specs.EntryLaws.{widths_joined, values_units, values_handles, two_ways, entries_back}
 use Rattle.list_writer.proofs.Rows.{length_bytes, total_entries}
-use Rattle.command_list.specs.RowLaws.{some_same, then_is, length_numbers, length_repeated, count_barriers}
+use Rattle.command_list.specs.RowLaws.{then_is, length_numbers, length_repeated, count_barriers}
 use Rattle.command_list.proofs.Runs.{sum_repeated}
 use Rattle.list_writer.proofs.Bytewise.{numbers_bytes, bytes_numbers, Bytes}
 
@@ -114,7 +115,7 @@ sum_widths (f ∷ fs) = ap (λ n. f.width + n) (sum_widths fs)
 back_by : (k : Code) (ws : List ℕ) (d c : Command) (ops : List ℕ) → code_of d ≡ k → widths (fields d) ≡ ws → values (fields d) ≡ numbers ws 0 ops → sum ws ≡ length ops → Bytes ops → Some d ≡ Some c → Backs k ops c
 back_by k ws d c ops q w v l b e =
     let long : total (fields d) ≡ length ops = sym (sum_widths (fields d)) ∙ ap sum w ∙ l in
-    subst (λ x. Backs k ops x) (some_same e)
+    subst (λ x. Backs k ops x) (same_Some _ _ e)
     (record {
       same = q;
       wrote = bytes_numbers (fields d) 0 ops b (omega arith) (v ∙ ap (λ us. numbers us 0 ops) (sym w)) ∙ take_all (total (fields d)) ops (omega arith);

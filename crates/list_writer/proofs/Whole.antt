@@ -3,6 +3,7 @@ use Rattle.std.proofs.Common.{◌≡◌, ℕ, zero, suc, ◌+◌, ◌-◌, ◌*�
 use Rattle.std.specs.List.{flat_map}
 use Rattle.std.proofs.lemmas.List.{take_at, take-append-le, drop-append-le, take-append-drop, length-drop, length-take-le, drop_all, get_or_append_left}
 use Rattle.std.proofs.lemmas.Bool.{cond-true, cond-false, eqb-true, le-leb, lt-ltb, and_from, and_parts, cases_Bool, or_parts, eqb-false, ltb-false, false≢true}
+use Rattle.std.proofs.lemmas.Option.{none-some, same_Some}
 use Rattle.command_list.specs.declared.code.Code.{Code}
 use Rattle.command_list.specs.declared.code.Code.TheVariants as code
 use Rattle.command_list.specs.Numbers.{bytes, total, Fit}
@@ -12,7 +13,6 @@ use Rattle.command_list.specs.Files.{Verdict, accepted, refused, after, followed
 use Rattle.list_writer.proofs.Rows.{length_bytes}
 use Rattle.list_writer.proofs.Bytewise.{number_fit, Bytes, bytes_drop, bytes_take}
 use Rattle.command_list.proofs.Fronts.{said, front_whole, front_within}
-use Rattle.command_list.specs.RowLaws.{none_some, some_same}
 use Rattle.list_writer.proofs.Trips.{decoded, decode_back, decode_is}
 
 -- a code's byte names it, and no other byte does
@@ -41,10 +41,10 @@ named_byte code.Dispatch = refl
 named_byte code.ExecuteIndirect = refl
 
 byte_named : (ks : List Code) (b : ℕ) (k : Code) → among ks b ≡ Some k → byte_of k ≡ b
-byte_named [] b k e = absurd (none_some e)
+byte_named [] b k e = absurd (none-some _ e)
 byte_named (j ∷ ks) b k e =
     ⊎_elim {A = eqb b (byte_of j) ≡ true} {B = eqb b (byte_of j) ≡ false}
-    (λ t. ap byte_of (sym (some_same (sym (cond-true _ _ _ t) ∙ e))) ∙ sym (eqb-true b (byte_of j) t))
+    (λ t. ap byte_of (sym (same_Some _ _ (sym (cond-true _ _ _ t) ∙ e))) ∙ sym (eqb-true b (byte_of j) t))
     (λ f. byte_named ks b k (sym (cond-false _ _ _ f) ∙ e))
     (cases_Bool (eqb b (byte_of j)))
 

@@ -1,6 +1,7 @@
 -- The owners of a layout's slots, and the values of elements that fit them.
 use Rattle.std.proofs.Common.{◌≡◌, ℕ, zero, suc, ◌+◌, ◌<◌, ◌≤◌, Bool, true, false, cond, [], ◌∷◌, is_some, Some, None, Option, sym, refl, ap, ◌∙◌, subst, ◌⊎◌, inl, inr, ⊎_elim, arith}
 use Rattle.std.proofs.lemmas.Bool.{true≢false, false≢true, eqb-true, lt-ltb, cases_lt}
+use Rattle.std.proofs.lemmas.Option.{none-some, same_Some}
 use Rattle.command_list.specs.declared.command.Half.{Half}
 use Rattle.command_list.specs.declared.command.Half.TheVariants.{Graphics, Compute}
 use Rattle.layouts.specs.declared.info.BindGroupInfo.{BindGroupInfo}
@@ -20,18 +21,12 @@ use Rattle.passes.specs.Flush.{Value, nothing, table_at, view_at, words_are, fir
 
 -- ---- owners
 
-none≢some : {A : Type 0} (x : A) → None ≡ Some x → ⊥
-none≢some x e = false≢true (ap is_some e)
-
-pub same_some : {A : Type 0} (x y : A) → Some x ≡ Some y → x ≡ y
-same_some x y e = cc
-
 pub special_owner : (l : PipelineLayout) (i : ℕ) → special_slot l ≡ Some i → Owns l Special i
 special_owner l i e = by l.special_constants refl e
   where
     by : (o : Option PipelineLayoutSpecialConstants) → l.special_constants ≡ o → slot_of o ≡ Some i → Owns l Special i
-    by None p q = absurd (none≢some i q)
-    by (Some c) p q = subst (λ k. Owns l Special k) (same_some c.root_index i q) ((whole l).special c p)
+    by None p q = absurd (none-some i q)
+    by (Some c) p q = subst (λ k. Owns l Special k) (same_Some c.root_index i q) ((whole l).special c p)
 
 pub owner_special : (l : PipelineLayout) (k : ℕ) → owner_in l k ≡ Some Special → special_slot l ≡ Some k
 owner_special l k e = by l.special_constants (sym (special_slot_lem l k) ∙ ap (owned is_special) e)
@@ -52,23 +47,23 @@ owner_there l k h e = true≢false (sym (lt-ltb k l.total_root_elements h) ∙ s
 
 -- another owner than the special constants
 pub not_special : (l : PipelineLayout) (o : Owner) (k : ℕ) → (o ≡ Special → ⊥) → owner_in l k ≡ Some o → special_slot l ≡ Some k → ⊥
-not_special l o k n e q = n (same_some o Special (sym e ∙ (special_owner l k q).1))
+not_special l o k n e q = n (same_Some o Special (sym e ∙ (special_owner l k q).1))
 
 -- the slot of an own indirect signature is the special slot
 pub own_special : (o : Option PipelineLayout) (i : ℕ) → own_slot o ≡ Some i → current_special o ≡ Some i
-own_special None i e = absurd (none≢some i e)
+own_special None i e = absurd (none-some i e)
 own_special (Some l) i e = by l.special_constants e
   where
     at : (b : Bool) (k : ℕ) → cond b (Some k) None ≡ Some i → Some k ≡ Some i
     at true k e = e
-    at false k e = absurd (none≢some i e)
+    at false k e = absurd (none-some i e)
 
     by : (o : Option PipelineLayoutSpecialConstants) → own_slot_of o ≡ Some i → slot_of o ≡ Some i
-    by None q = absurd (none≢some i q)
+    by None q = absurd (none-some i q)
     by (Some c) q = at c.own_signature c.root_index q
 
 pub current_special_lem : (o : Option PipelineLayout) (i : ℕ) → current_special o ≡ Some i → (l : PipelineLayout) × (o ≡ Some l) × (special_slot l ≡ Some i)
-current_special_lem None i e = absurd (none≢some i e)
+current_special_lem None i e = absurd (none-some i e)
 current_special_lem (Some l) i e = (l, refl, e)
 
 -- a group's slots are the layout's, each its table's or a uniform's

@@ -1,9 +1,10 @@
 -- What the touched slots are written with.
-use Rattle.std.specs.Prelude.{◌≡◌, ℕ, zero, suc, ◌+◌, Bool, cond, List, [], ◌∷◌, ◌++◌, Some, None, Option}
+use Rattle.std.specs.Prelude.{◌≡◌, ℕ, zero, suc, ◌+◌, List, [], ◌∷◌, ◌++◌, Some, None, Option}
 use Rattle.command_list.specs.declared.command.Half.{Half}
 use Rattle.command_list.specs.declared.command.Half.TheVariants.{Graphics, Compute}
-use Rattle.command_list.specs.Commands.{Command, IASetVertexBuffers, SetRoot32BitConstant, SetRootDescriptorTable, SetRootConstantBufferView}
+use Rattle.command_list.specs.Commands.{Command, IASetVertexBuffers, SetRootDescriptorTable, SetRootConstantBufferView}
 use Rattle.device.specs.Devices.{Slot, table, view, words, VertexView}
+use Rattle.device.specs.Writes.{word_commands, Begins, gathered}
 use Rattle.layouts.specs.declared.info.ImmediatesInfo.{ImmediatesInfo}
 use Rattle.layouts.specs.declared.layout.PipelineLayout.{PipelineLayout}
 use Rattle.bindings.specs.declared.constants.SpecialConstants.{SpecialConstants as Constants}
@@ -48,11 +49,6 @@ element_value h b (DynamicUniformBuffer a) = view_at a
 abbrev pub value_at : Half → Bound → ℕ → Value
 value_at h b k = element_value h b (b.elements k)
 
--- words of a slot, ascending
-abbrev pub word_commands : Half → ℕ → ℕ → List ℕ → List Command
-word_commands h k w [] = []
-word_commands h k w (v ∷ vs) = SetRoot32BitConstant h k w v ∷ word_commands h k (w + 1) vs
-
 abbrev pub slot_commands : Half → ℕ → Value → List Command
 slot_commands h k nothing = []
 slot_commands h k (table_at a) = SetRootDescriptorTable h k a ∷ []
@@ -61,11 +57,6 @@ slot_commands h k (words_are vs) = word_commands h k 0 vs
 
 abbrev pub view_commands : ℕ → VertexView → List Command
 view_commands i x = IASetVertexBuffers i x.address x.size x.stride ∷ []
-
--- the commands of the touched slots among n from k on, lowest first
-unfoldable pub gathered : (ℕ → Bool) → (ℕ → List Command) → ℕ → ℕ → List Command
-gathered t f k zero = []
-gathered t f k (suc n) = cond (t k) (f k) [] ++ gathered t f (k + 1) n
 
 abbrev pub root_commands : Half → Bound → ℕ → List Command
 root_commands h b k = slot_commands h k (value_at h b k)
@@ -76,11 +67,6 @@ vertex_commands v i = view_commands i (v.views i)
 -- vertex slots first, then root slots
 abbrev pub flushed : Half → Bound → Views → List Command
 flushed h b v = gathered v.touched (vertex_commands v) 0 16 ++ gathered b.touched (root_commands h b) 0 64
-
--- a slot's words begin with these, from w on
-abbrev pub Begins : (ℕ → Option ℕ) → ℕ → List ℕ → Type 0
-Begins f w [] = Unit {0}
-Begins f w (v ∷ vs) = (f w ≡ Some v) × Begins f (w + 1) vs
 
 -- a slot of the device holds a value
 abbrev pub Holds : Value → Slot → Type 0

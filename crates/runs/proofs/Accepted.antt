@@ -4,10 +4,12 @@ use Rattle.std.proofs.lemmas.Bool.{true≢false, false≢true}
 use Rattle.command_list.specs.declared.command.Half.{Half}
 use Rattle.command_list.specs.Commands.{Command, IASetPrimitiveTopology, ExecuteIndirect}
 use Rattle.command_list.specs.declared.command.Half.TheVariants.{Graphics, Compute}
-use Rattle.device.specs.Devices.{Device, Roots, step, play}
+use Rattle.device.specs.Devices.{Device, step, play}
 use Rattle.device.specs.Meaning.{Meaning}
 use Rattle.device.proofs.Runs.{play_append}
 use Rattle.device.proofs.Steps.{step_root_writes}
+use Rattle.device.proofs.Quiets.{quiet_played}
+use Rattle.device.proofs.NoWrites.{Unwritten, still_unwritten, unwritten_then}
 use Rattle.layouts.specs.declared.layout.PipelineLayout.{PipelineLayout}
 use Rattle.passes.specs.Account.{Account, own_slot}
 use Rattle.passes.specs.Calls.{SetCall, set_bind_group, set_immediates, set_render_pipeline, set_compute_pipeline, set_vertex_buffer, addresses, set_roots, set_pipeline, set_records, asks_set, DrawCall, draw, draw_indirect, dispatch, dispatch_indirect, own_constants, prepared, wiped_slot, after_draw, own_command, draw_records, asks_draw}
@@ -15,7 +17,7 @@ use Rattle.passes.specs.Flush.{flushed}
 use Rattle.encoder.specs.Opening.{half_of, is_labelled, label_of, quiet_records}
 use Rattle.encoder.specs.Scenes.{Call, begin_encoding, end_encoding, discard_encoding, opening, ending, quiet, set, drawing, Stage, idle, recording, in_pass, account_of, pass_draws, offers, next, records, asks, start_of}
 use Rattle.runs.specs.Marks.{Moment, is_opening, is_mark, touches, touches_vertex}
-use Rattle.runs.proofs.Quiets.{Still, quiet_played, quiet_quiet}
+use Rattle.runs.proofs.Quiets.{quiet_quiet}
 use Rattle.runs.proofs.Flushes.{flush_played}
 use Rattle.passes.proofs.Questions.{group_asked, immediates_asked, render_asked, compute_asked, draw_asked}
 use Rattle.runs.proofs.Agreeing.{Agree, agree_opened, agree_device, agree_group, agree_immediates}
@@ -128,17 +130,6 @@ sound_taken null (drawing c) (in_pass a) m ever ever' g o q x =
           (viewed_flushed ever a.half (prepared c a.roots) a.vertices d e g.1 (flush_played a.half (prepared c a.roots) a.vertices d)) x
           (own_stepped c a.half a.roots.layout e o).vertices,
     )
-
--- no slot was written between two devices
-pub record Unwritten (e d : Device) : Type 0 where
-  pub roots : (h : Half) (k : ℕ) → (d.halves h).writes k ≡ (e.halves h).writes k
-  pub vertices : (i : ℕ) → d.vertex_writes i ≡ e.vertex_writes i
-
-pub still_unwritten : (d e : Device) → Still d e → Unwritten d e
-still_unwritten d e s = record { roots = λ h k. ap (λ (f : Half → Roots). (f h).writes k) s.halves; vertices = λ i. ap (λ f. f i) s.vertex_writes }
-
-unwritten_then : (a b c : Device) → Unwritten a b → Unwritten b c → Unwritten a c
-unwritten_then a b c p q = record { roots = λ h k. q.roots h k ∙ p.roots h k; vertices = λ i. q.vertices i ∙ p.vertices i }
 
 pub own_unwritten : (c : DrawCall) (l : Option PipelineLayout) (d : Device) → Unwritten d (step (own_command c l) d)
 own_unwritten (draw first count instance instances) l d = record { roots = λ h k. refl; vertices = λ i. refl }

@@ -1,6 +1,8 @@
 -- What is bound at the root slots and what the device holds agree, whatever set calls are accepted.
-use Rattle.std.proofs.Common.{◌≡◌, ℕ, suc, ◌+◌, ◌<◌, ◌≤◌, Bool, true, false, cond, List, [], ◌∷◌, map, length, is_some, Some, None, Option, sym, refl, ap, ◌∙◌, subst, ⊎_elim, arith}
+use Rattle.std.proofs.Common.{◌≡◌, ℕ, ◌+◌, ◌<◌, ◌≤◌, Bool, true, false, cond, List, [], ◌∷◌, length, Some, None, Option, sym, refl, ap, ◌∙◌, subst, ⊎_elim, arith}
 use Rattle.std.proofs.lemmas.Bool.{true≢false, false≢true, ltb-true, lt-ltb, cases_eq, cases_lt, cond_both}
+use Rattle.std.proofs.lemmas.List.{length-map}
+use Rattle.std.proofs.lemmas.Option.{none-some, same_Some}
 use Rattle.command_list.specs.declared.command.Half.{Half}
 use Rattle.device.specs.Devices.{Device, Roots, update}
 use Rattle.device.proofs.Updates.{update_here, update_other}
@@ -17,7 +19,7 @@ use Rattle.passes.specs.Account.{Bound, Pipeline, opened, filled, filled_from, s
 use Rattle.passes.specs.Calls.{grouped, supplied, asks_layout}
 use Rattle.passes.specs.Flush.{element_value, value_at, Holds}
 use Rattle.passes.proofs.Questions.{current_layout}
-use Rattle.passes.proofs.Fitting.{same_some, owner_special, owner_immediates, not_special, is_special_element, may_be_special, special_may, value_by, value_else}
+use Rattle.passes.proofs.Fitting.{owner_special, owner_immediates, not_special, is_special_element, may_be_special, special_may, value_by, value_else}
 
 -- a slot of the layout l that is not touched: the pipeline is of the layout's signature, and the device holds the slot's value, which fits its owner
 pub record Held (h : Half) (p : Option Pipeline) (b : Bound) (d : Device) (l : PipelineLayout) (k : ℕ) : Type 0 where
@@ -51,15 +53,12 @@ same_total o l m p q = ap total_of (sym p ∙ q)
 pub same_signature : (o : Option PipelineLayout) (l m : PipelineLayout) → o ≡ Some l → o ≡ Some m → l.signature ≡ m.signature
 same_signature o l m p q = ap signature_of (sym p ∙ q)
 
-pub none≢some : {A : Type 0} (x : A) → None ≡ Some x → ⊥
-none≢some x e = false≢true (ap is_some e)
-
 pub agree_opened : (h : Half) (labelled : Bool) (d : Device) → Agree h None (opened h labelled).roots d
 agree_opened h labelled d = record {
-  piped = λ x e. absurd (none≢some x e);
+  piped = λ x e. absurd (none-some x e);
   within = λ k e. absurd (false≢true e);
-  held = λ l e k lt f. absurd (none≢some l e);
-  special = λ l e i s. absurd (none≢some l e);
+  held = λ l e k lt f. absurd (none-some l e);
+  special = λ l e i s. absurd (none-some l e);
 }
 
 -- a device that is the same for the half
@@ -143,13 +142,9 @@ module _ (h : Half) (p : Option Pipeline) (d : Device) (l : PipelineLayout) wher
 
 -- ---- groups
 
-map_length : {A B : Type 0} (f : A → B) (xs : List A) → length (map f xs) ≡ length xs
-map_length f [] = refl
-map_length f (x ∷ xs) = ap suc (map_length f xs)
-
 elements_length : (b : Bool) (t : ℕ) (xs : List ℕ) → length (group_elements b t xs) ≡ cond b 1 0 + length xs
-elements_length true t xs = let e = map_length DynamicUniformBuffer xs in omega arith
-elements_length false t xs = let e = map_length DynamicUniformBuffer xs in omega arith
+elements_length true t xs = let e = length-map xs DynamicUniformBuffer in omega arith
+elements_length false t xs = let e = length-map xs DynamicUniformBuffer in omega arith
 
 -- the slots of a group are the layout's, and not the special one
 pub group_slots : (l : PipelineLayout) (i : ℕ) (g : BindGroupInfo) (t : ℕ) (xs : List ℕ) → group_in l i ≡ Some g → g.uniforms ≡ length xs
@@ -209,6 +204,6 @@ module _ (h : Half) (p : Option Pipeline) (d : Device) (l : PipelineLayout) (b :
       (λ s. absurd (not_special l ImmediatesOwner k (λ e. let z : ◌≡◌ {A = ℕ} 0 1 = cc in omega arith) owns.1 s))
       (λ j j-in n held.
       value_else l h b (with_immediates f b) j (b.elements j) j-in
-      (λ o. let w = owner_immediates l j o in n (sym w.2 ∙ ap (λ (x : ImmediatesInfo). x.root_index) (same_some w.0 i (sym w.1 ∙ is))))
+      (λ o. let w = owner_immediates l j o in n (sym w.2 ∙ ap (λ (x : ImmediatesInfo). x.root_index) (same_Some w.0 i (sym w.1 ∙ is))))
       held.fit (λ o. (g.special l now j (owner_special l j o)).0))
       g))

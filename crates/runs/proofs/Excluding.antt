@@ -1,11 +1,13 @@
 -- The contract of a draw excludes bad encoders.
-use Rattle.std.proofs.Common.{◌≡◌, ℕ, ◌+◌, ◌≤◌, true, List, [], ◌∷◌, None, sym, refl, ap, ◌∙◌, subst, ⊎_elim, arith}
-use Rattle.std.proofs.lemmas.Bool.{cases_eq, true≢false, false≢true}
-use Rattle.command_list.specs.Commands.{Command, code_of, byte_of}
-use Rattle.device.specs.Devices.{Device, more, step, play}
+use Rattle.std.proofs.Common.{◌≡◌, ◌+◌, true, List, [], ◌∷◌, None, sym, refl, ap, ◌∙◌, subst, arith}
+use Rattle.std.proofs.lemmas.Bool.{true≢false, false≢true}
+use Rattle.command_list.specs.Commands.{code_of, byte_of}
+use Rattle.device.specs.Devices.{Device, play}
 use Rattle.device.specs.Meaning.{Meaning}
+use Rattle.device.proofs.Runs.{counts_rise}
 use Rattle.device.proofs.Steps.{step_counts}
-use Rattle.device.proofs.Updates.{update_here, update_other}
+use Rattle.device.proofs.Updates.{update_here}
+use Rattle.device.proofs.NoWrites.{Unwritten}
 use Rattle.passes.specs.Calls.{DrawCall, prepared, own_command, asks_draw}
 use Rattle.encoder.specs.Scenes.{drawing, Stage, idle, recording, in_pass, account_of, offers, records, asks, start_of, taken, is_taken, Scene}
 use Rattle.runs.specs.Marks.{Moment, Run, device_before, device_after, account_at, since_opening}
@@ -13,22 +15,11 @@ use Rattle.runs.specs.Excluded.{NoSilentDraw, NoNeedlessRefusal, OfDraws, BadEnc
 use Rattle.runs.proofs.Flushes.{Flushed, flush_played}
 use Rattle.runs.proofs.Agreeing.{Agree}
 use Rattle.runs.proofs.Viewing.{Viewed}
-use Rattle.runs.proofs.Accepted.{flush_of, draw_played, draw_ready, Sound, Unwritten, own_unwritten}
+use Rattle.runs.proofs.Accepted.{flush_of, draw_played, draw_ready, Sound, own_unwritten}
 use Rattle.encoder.proofs.Answered.{took, accepts}
 use Rattle.runs.proofs.Law.{sound_run, run_split}
 
 -- ---- counts
-
-more_least : (f : ℕ → ℕ) (i k : ℕ) → f k ≤ more i f k
-more_least f i k = ⊎_elim
-    (λ w. omega (arith, update_here f i (f i + 1) k w, ap f w))
-    (λ w. omega (arith, update_other f i (f i + 1) k w))
-    (cases_eq k i)
-
--- no command lowers a count
-counts_rise : (cs : List Command) (d : Device) (k : ℕ) → d.counts k ≤ (play cs d).counts k
-counts_rise [] d k = omega arith
-counts_rise (c ∷ cs) d k = omega (arith, counts_rise cs (step c d) k, ap (λ f. f k) (step_counts c d), more_least d.counts (byte_of (code_of c)) k)
 
 silent : NoSilentDraw
 silent s t c does same =

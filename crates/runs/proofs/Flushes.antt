@@ -2,37 +2,18 @@
 use Rattle.std.proofs.Common.{◌≡◌, ℕ, ◌+◌, ◌<◌, ◌≤◌, true, false, sym, refl, ap, ◌∙◌, subst, arith}
 use Rattle.std.proofs.lemmas.Bool.{true≢false}
 use Rattle.command_list.specs.declared.command.Half.{Half}
-use Rattle.device.specs.Devices.{Device, Roots, VertexView, play}
+use Rattle.device.specs.Devices.{Device, Roots, other, play}
+use Rattle.device.specs.Writes.{gathered}
 use Rattle.device.proofs.Runs.{play_append}
-use Rattle.device.proofs.Updates.{update_here, update_other}
+use Rattle.device.proofs.Slots.{Kept, kept_none, kept_then, Beside, beside_none, beside_then}
+use Rattle.device.proofs.Vertices.{Aside, SameView, PutView, same_none, same_then, view_between, view_other, view_put_lem}
+use Rattle.device.proofs.Tables.{gathered_keeps, gathered_does}
 use Rattle.passes.specs.Account.{Bound, Views}
-use Rattle.passes.specs.Flush.{Value, gathered, value_at, slot_commands, root_commands, vertex_commands, view_commands, flushed}
-use Rattle.runs.specs.Marks.{other}
+use Rattle.passes.specs.Flush.{Value, value_at, slot_commands, root_commands, vertex_commands, flushed}
 use Rattle.passes.proofs.Fitting.{solid}
-use Rattle.runs.proofs.Slots.{Kept, Put, kept_none, kept_then, put_between, given_other, given_signature, given_put, slot_played}
-use Rattle.runs.proofs.Tables.{gathered_keeps, gathered_does}
+use Rattle.runs.proofs.Slots.{Put, put_between, given_other, given_signature, given_put, slot_played}
 
 -- ---- root slots
-
--- what the writes of a half's root slots leave
-pub record Beside (h : Half) (d e : Device) : Type 0 where
-  pub signature : (e.halves h).signature ≡ (d.halves h).signature
-  pub other : e.halves (other h) ≡ d.halves (other h)
-  pub pipeline : e.pipeline ≡ d.pipeline
-  pub vertices : e.vertices ≡ d.vertices
-  pub vertex_writes : e.vertex_writes ≡ d.vertex_writes
-
-beside_none : (h : Half) (d : Device) → Beside h d d
-beside_none h d = record { signature = refl; other = refl; pipeline = refl; vertices = refl; vertex_writes = refl }
-
-beside_then : (h : Half) (a b c : Device) → Beside h a b → Beside h b c → Beside h a c
-beside_then h a b c p q = record {
-  signature = q.signature ∙ p.signature;
-  other = q.other ∙ p.other;
-  pipeline = q.pipeline ∙ p.pipeline;
-  vertices = q.vertices ∙ p.vertices;
-  vertex_writes = q.vertex_writes ∙ p.vertex_writes;
-}
 
 slot_beside : (h : Half) (k : ℕ) (v : Value) (d : Device) → Beside h d (play (slot_commands h k v) d)
 slot_beside h k v d =
@@ -71,34 +52,6 @@ module _ (h : Half) (b : Bound) where
       q on (λ j w x. slot_other h j (value_at h b j) q w x) (slot_put h q (value_at h b q) s) n k l m d
 
 -- ---- vertex slots
-
--- what the writes of vertex slots leave
-pub record Aside (d e : Device) : Type 0 where
-  pub halves : e.halves ≡ d.halves
-  pub pipeline : e.pipeline ≡ d.pipeline
-
-record SameView (i : ℕ) (d e : Device) : Type 0 where
-  pub view : e.vertices i ≡ d.vertices i
-  pub writes : e.vertex_writes i ≡ d.vertex_writes i
-
-record PutView (i : ℕ) (x : VertexView) (d e : Device) : Type 0 where
-  pub view : e.vertices i ≡ x
-  pub rises : d.vertex_writes i < e.vertex_writes i
-
-same_none : (i : ℕ) (d : Device) → SameView i d d
-same_none i d = record { view = refl; writes = refl }
-
-same_then : (i : ℕ) (a b c : Device) → SameView i a b → SameView i b c → SameView i a c
-same_then i a b c p q = record { view = q.view ∙ p.view; writes = q.writes ∙ p.writes }
-
-view_between : (i : ℕ) (x : VertexView) (a b c e : Device) → SameView i a b → PutView i x b c → SameView i c e → PutView i x a e
-view_between i x a b c e p q r = record { view = r.view ∙ q.view; rises = omega (arith, p.writes, q.rises, r.writes) }
-
-view_other : (j : ℕ) (x : VertexView) (i : ℕ) → (i ≡ j → ⊥) → (d : Device) → SameView i d (play (view_commands j x) d)
-view_other j x i n d = record { view = update_other d.vertices j x i n; writes = update_other d.vertex_writes j (d.vertex_writes j + 1) i n }
-
-view_put_lem : (i : ℕ) (x : VertexView) (d : Device) → PutView i x d (play (view_commands i x) d)
-view_put_lem i x d = record { view = update_here d.vertices i x i refl; rises = omega (arith, update_here d.vertex_writes i (d.vertex_writes i + 1) i refl) }
 
 module _ (v : Views) where
   views_aside : (n k : ℕ) (d : Device) → Aside d (play (gathered v.touched (vertex_commands v) k n) d)

@@ -2,21 +2,23 @@
 use Rattle.std.proofs.Common.{◌≡◌, ℕ, ◌<◌, Bool, true, false, cond, ◌&&◌, List, [], ◌∷◌, ◌++◌, Some, None, sym, refl, ap, ◌∙◌, subst, ⊎_elim, append_assoc, append-nil, arith}
 use Rattle.std.proofs.lemmas.Bool.{false≢true, cases_Bool, and_left}
 use Rattle.command_list.specs.Commands.{Command}
-use Rattle.device.specs.Devices.{Device, Roots, step, play}
+use Rattle.device.specs.Devices.{Device, Roots, other, step, play}
+use Rattle.device.proofs.Quiets.{quiet_played}
+use Rattle.device.proofs.NoWrites.{Unwritten, still_unwritten}
 use Rattle.passes.specs.Account.{Account}
 use Rattle.passes.specs.Calls.{DrawCall, own_constants, prepared, own_command, draw_records, asks_draw, draw_touches}
 use Rattle.encoder.specs.Opening.{opening_records}
 use Rattle.encoder.specs.Scenes.{Call, begin_encoding, end_encoding, discard_encoding, opening, ending, quiet, set, drawing, Stage, idle, recording, in_pass, account_of, pass_draws, offers, records, asks, start_of, taken, is_taken, Scene, Does}
 use Rattle.encoder.proofs.Answered.{taken_is, Took, took}
-use Rattle.runs.specs.Marks.{Moment, Run, device_before, device_after, account_at, is_opening, is_mark, Mark, NoMark, but_last, found_by, found, touches, touches_vertex, since_opening, other, Stands, EveryRunKeeps}
-use Rattle.runs.proofs.Quiets.{quiet_played, opening_quiet}
+use Rattle.runs.specs.Marks.{Moment, Run, device_before, device_after, account_at, is_opening, is_mark, Mark, NoMark, but_last, found_by, found, touches, touches_vertex, since_opening, Stands, EveryRunKeeps}
+use Rattle.runs.proofs.Quiets.{opening_quiet}
 use Rattle.runs.proofs.Flushes.{flush_played}
 use Rattle.passes.proofs.Questions.{draw_asked}
 use Rattle.runs.proofs.Agreeing.{Agree, same_total}
 use Rattle.runs.proofs.Ready.{agree_prepared, known_prepared, own_latest}
 use Rattle.runs.proofs.Following.{Extends, extends_taken, extends_refused, Follows, follows_none, follows_quiet, follows_prepared}
 use Rattle.runs.proofs.Viewing.{FollowsViews, views_none, views_quiet, Viewed, viewed_quiet, viewed_flushed}
-use Rattle.runs.proofs.Accepted.{flush_of, draw_played, draw_ready, draw_current, Sound, sound_taken, Unwritten, still_unwritten, own_unwritten, Since, since_taken}
+use Rattle.runs.proofs.Accepted.{flush_of, draw_played, draw_ready, draw_current, Sound, sound_taken, own_unwritten, Since, since_taken}
 
 -- ---- one call
 

@@ -1,5 +1,4 @@
 pub mod Slots
-pub mod Tables
 pub mod Flushes
 pub mod Quiets
 pub mod Agreeing

@@ -1,38 +1,20 @@
 -- What a pipeline call records, and that bound elements and the device agree behind it.
-use Rattle.std.proofs.Common.{◌≡◌, ℕ, Bool, true, false, cond, ◌&&◌, eqb, List, [], ◌∷◌, ◌++◌, Some, None, Option, sym, refl, ap, ◌∙◌, subst}
-use Rattle.std.proofs.lemmas.Bool.{false≢true, eqb-true, eq-eqb, and_parts, cond_both, cond-true}
+use Rattle.std.proofs.Common.{◌≡◌, ℕ, Bool, true, false, cond, ◌&&◌, List, [], ◌∷◌, ◌++◌, Some, None, Option, sym, refl, ap, ◌∙◌, subst}
+use Rattle.std.proofs.lemmas.Bool.{false≢true, eqb-true, and_parts, cond_both}
+use Rattle.std.proofs.lemmas.Option.{same_Some}
 use Rattle.command_list.specs.declared.command.Half.{Half}
-use Rattle.command_list.specs.declared.command.Half.TheVariants.{Graphics, Compute}
 use Rattle.command_list.specs.Commands.{Command, SetRootSignature, SetPipelineState}
-use Rattle.device.specs.Devices.{Device, Roots, unset, signed, step, play}
+use Rattle.device.specs.Devices.{Device, Roots, signed, step, play}
+use Rattle.device.proofs.Steps.{signed_writes, signed_signature, signed_kept}
+use Rattle.device.proofs.Updates.{both_halves}
+use Rattle.device.proofs.Quiets.{are_quiet, Still, quiet_played}
+use Rattle.device.proofs.Slots.{Rooted, rooted_one}
 use Rattle.layouts.specs.declared.layout.PipelineLayout.{PipelineLayout}
 use Rattle.passes.specs.Account.{Bound, Pipeline, is_current, renewed, switched}
 use Rattle.passes.specs.Calls.{is_signed, signature_first, asks_layout}
 use Rattle.passes.specs.Flush.{value_at, Holds}
-use Rattle.runs.specs.Marks.{other}
-use Rattle.runs.proofs.Slots.{Rooted, rooted_one}
-use Rattle.runs.proofs.Quiets.{are_quiet, Still, quiet_played}
 use Rattle.passes.proofs.Questions.{current_layout}
-use Rattle.passes.proofs.Fitting.{same_some}
 use Rattle.runs.proofs.Agreeing.{Agree, agree_renewed, same_signature}
-
-pub both_halves : (h : Half) (P : Half → Type 0) → P h → P (other h) → (g : Half) → P g
-both_halves Graphics P a b Graphics = a
-both_halves Graphics P a b Compute = b
-both_halves Compute P a b Graphics = b
-both_halves Compute P a b Compute = a
-
-signed_signature : (s : ℕ) (r : Roots) → (signed s r).signature ≡ s
-signed_signature s r =
-    cond_both (eqb r.signature s) r (record { signature = s; slots = λ i. unset; writes = r.writes }) (λ (x : Roots). x.signature ≡ s) (λ e. eqb-true r.signature s e) (λ _. refl)
-
-signed_writes : (s : ℕ) (r : Roots) → (signed s r).writes ≡ r.writes
-signed_writes s r =
-    cond_both (eqb r.signature s) r (record { signature = s; slots = λ i. unset; writes = r.writes }) (λ (x : Roots). x.writes ≡ r.writes) (λ e. refl) (λ _. refl)
-
-signed_kept : (s : ℕ) (r : Roots) → r.signature ≡ s → (signed s r).slots ≡ r.slots
-signed_kept s r e =
-    ap (λ (x : Roots). x.slots) (cond-true (eqb r.signature s) r (record { signature = s; slots = λ i. unset; writes = r.writes }) (eq-eqb r.signature s e))
 
 -- the pipeline and its signature are set; slots are kept where the signature is the half's own already; nothing is written
 pub record Piped (h : Half) (s handle : ℕ) (d e : Device) : Type 0 where
@@ -90,7 +72,7 @@ pub agree_pipe : (h : Half) (p : Option Pipeline) (b : Bound) (d e : Device) (l 
 agree_pipe h p b d e l handle g w q =
     let x : Pipeline = record { handle = handle; signature = l.signature } in
     let piped : (y : Pipeline) → Some x ≡ Some y → (e.pipeline ≡ y.handle) × ((e.halves h).signature ≡ y.signature) = λ y s.
-    let same = same_some x y s in
+    let same = same_Some x y s in
     (w.on ∙ ap (λ (z : Pipeline). z.handle) same, w.signature ∙ ap (λ (z : Pipeline). z.signature) same) in
     cond_both (is_current l.signature b.layout) b (renewed l b) (λ c. Agree h (Some x) c e)
     (λ cur.

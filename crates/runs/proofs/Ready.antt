@@ -1,10 +1,13 @@
 -- What an accepted draw finds just before its own record, and that elements and device agree behind it.
 use Rattle.std.proofs.Common.{◌≡◌, ℕ, ◌<◌, true, false, Some, None, Option, sym, refl, ap, ◌∙◌, subst, ⊎_elim, arith}
 use Rattle.std.proofs.lemmas.Bool.{false≢true, cases_eq, cases_Bool, cond_both}
+use Rattle.std.proofs.lemmas.Option.{none-some, same_Some}
 use Rattle.command_list.specs.declared.command.Half.{Half}
 use Rattle.command_list.specs.declared.command.Half.TheVariants.{Graphics, Compute}
-use Rattle.device.specs.Devices.{Device, Roots, unset, update, wiped, step}
+use Rattle.device.specs.Devices.{Device, Roots, unset, update, wiped, other, step}
+use Rattle.device.proofs.Steps.{wiped_signature}
 use Rattle.device.proofs.Updates.{update_here, update_other}
+use Rattle.device.proofs.Slots.{Rooted}
 use Rattle.layouts.specs.declared.layout.PipelineLayout.{PipelineLayout}
 use Rattle.layouts.specs.Layouts.{owner_in}
 use Rattle.layouts.proofs.Wholeness.{whole}
@@ -15,13 +18,11 @@ use Rattle.passes.specs.Account.{Bound, Views, Pipeline, filled, special_slot, p
 use Rattle.passes.specs.Calls.{DrawCall, draw, draw_indirect, dispatch, dispatch_indirect, own_constants, constants_by, by_own, prepared_by, wiped_slot, own_command}
 use Rattle.passes.specs.Flush.{nothing, element_value, value_at, Holds}
 use Rattle.encoder.specs.Scenes.{pass_draws}
-use Rattle.runs.specs.Marks.{other}
 use Rattle.passes.proofs.Fitting.{solid}
-use Rattle.runs.proofs.Slots.{Rooted}
 use Rattle.runs.proofs.Flushes.{Flushed}
 use Rattle.passes.proofs.Questions.{Drawable}
-use Rattle.passes.proofs.Fitting.{same_some, special_owner, own_special, current_special_lem, is_special_element, may_be_special, constants_special, value_by, fit_solid, solid_known}
-use Rattle.runs.proofs.Agreeing.{Agree, agree_slot, same_total, none≢some}
+use Rattle.passes.proofs.Fitting.{special_owner, own_special, current_special_lem, is_special_element, may_be_special, constants_special, value_by, fit_solid, solid_known}
+use Rattle.runs.proofs.Agreeing.{Agree, agree_slot, same_total}
 
 -- ---- the special constants of a draw
 
@@ -49,20 +50,20 @@ by_own_lem None None e = absurd (false≢true e)
 by_own_lem None (Some j) e = (refl, (j, refl))
 
 prepared_constants : (l : PipelineLayout) (o : Option Constants) (s : Constants) (b : Bound) (m : Option ℕ) → special_slot l ≡ m → Prepared l o b (constants_at m s b)
-prepared_constants l o s b None e = record { layout = refl; fit = λ k f. f; constants = λ i q n. absurd (none≢some i (sym e ∙ q)) }
+prepared_constants l o s b None e = record { layout = refl; fit = λ k f. f; constants = λ i q n. absurd (none-some i (sym e ∙ q)) }
 prepared_constants l o s b (Some j) e =
     cond_both (is_constants s (b.elements j)) b (filled j (SpecialConstants s) b) (λ c. Prepared l o b c)
     (λ y. record {
       layout = refl;
       fit = λ k f. f;
-      constants = λ i q n. ap (λ k. is_special_element (b.elements k)) (same_some i j (sym q ∙ e)) ∙ constants_special s (b.elements j) y;
+      constants = λ i q n. ap (λ k. is_special_element (b.elements k)) (same_Some i j (sym q ∙ e)) ∙ constants_special s (b.elements j) y;
     })
     (λ _. record {
       layout = refl;
       fit = λ k f. ⊎_elim
           (λ w. ap (λ z. fits_owner z (update b.elements j (SpecialConstants s) k)) (ap (owner_in l) w ∙ (special_owner l j e).1))
           (λ w. ap (fits_owner (owner_in l k)) (update_other b.elements j (SpecialConstants s) k w) ∙ f) (cases_eq k j);
-      constants = λ i q n. ap is_special_element (update_here b.elements j (SpecialConstants s) i (same_some i j (sym q ∙ e)));
+      constants = λ i q n. ap is_special_element (update_here b.elements j (SpecialConstants s) i (same_Some i j (sym q ∙ e)));
     })
 
 pub prepared_is : (l : PipelineLayout) (o : Option Constants) (b : Bound) → b.layout ≡ Some l → Prepared l o b (prepared_by o b)
@@ -75,7 +76,7 @@ prepared_is l o b is =
       layout = refl;
       fit = λ k f. f;
       constants = λ i q n.
-          let same : w.1.0 ≡ i = same_some w.1.0 i (sym (own_special (Some l) w.1.0 own) ∙ q) in
+          let same : w.1.0 ≡ i = same_Some w.1.0 i (sym (own_special (Some l) w.1.0 own) ∙ q) in
           absurd (n (ap (λ z. wiped_slot z (Some l)) w.0 ∙ own ∙ ap Some same));
     })
     (λ _. prepared_constants l o (constants_by o (own_slot b.layout)) b (current_special b.layout) (sym (ap current_special is)))
@@ -138,7 +139,7 @@ pub known_prepared : (h : Half) (o : Option Constants) (p : Option Pipeline) (b 
 known_prepared h o p b r l is =
     let w = prepared_is r.layout o b r.current in
     subst (λ (m : PipelineLayout). (k : ℕ) → k < m.total_root_elements → (wiped_slot o (Some m) ≡ Some k → ⊥) → value_at h (prepared_by o b) k ≡ nothing → ⊥)
-    (same_some r.layout l (sym r.current ∙ is))
+    (same_Some r.layout l (sym r.current ∙ is))
     (λ k lt n. solid_known (value_at h (prepared_by o b) k) (fit_solid r.layout h (prepared_by o b) k (w.layout ∙ r.current) lt (w.fit k (r.fit k lt)) (λ s. w.constants k s n)))
 
 -- ---- behind its own record
@@ -158,14 +159,6 @@ own_latest (draw first count instance instances) l d = refl
 own_latest (draw_indirect buffer offset count) l d = refl
 own_latest (dispatch x y z) l d = refl
 own_latest (dispatch_indirect buffer offset) l d = refl
-
-wiped_signature : (w : Option ℕ) (r : Roots) → (wiped w r).signature ≡ r.signature
-wiped_signature None r = refl
-wiped_signature (Some i) r = refl
-
-pub wiped_writes : (w : Option ℕ) (r : Roots) → (wiped w r).writes ≡ r.writes
-wiped_writes None r = refl
-wiped_writes (Some i) r = refl
 
 -- nothing is asked of a slot that was wiped, and others hold what they held
 wiped_holds : (h : Half) (w : Option ℕ) (b : Bound) (r : Roots) (k : ℕ) → Holds (value_at h b k) (r.slots k) → Holds (value_at h (untouched (emptied w b)) k) ((wiped w r).slots k)
@@ -193,20 +186,20 @@ wiped_special (Some i) f k g = ⊎_elim (λ e. ap may_be_special (update_here f 
 
 -- the slot that a call wipes is the special one
 pub wiped_is_special : (o : Option Constants) (l : PipelineLayout) (i : ℕ) → wiped_slot o (Some l) ≡ Some i → special_slot l ≡ Some i
-wiped_is_special (Some s) l i e = absurd (none≢some i e)
+wiped_is_special (Some s) l i e = absurd (none-some i e)
 wiped_is_special None l i e = own_special (Some l) i e
 
 pub agree_after : (h : Half) (p : Option Pipeline) (b : Bound) (d e f : Device) (w : Option ℕ) (r : Ready h p b d e)
     → ((i : ℕ) → w ≡ Some i → special_slot r.layout ≡ Some i) → Rooted h (wiped w) e f → Agree h p (untouched (emptied w b)) f
 agree_after h p b d e f w r sp m = record {
   piped = λ x q.
-      let same = same_some r.pipeline x (sym r.set ∙ q) in (
+      let same = same_Some r.pipeline x (sym r.set ∙ q) in (
         m.pipeline ∙ r.on_device ∙ ap (λ (z : Pipeline). z.handle) same,
         ap (λ (z : Roots). z.signature) m.here ∙ wiped_signature w (e.halves h) ∙ r.signed ∙ ap (λ (z : Pipeline). z.signature) same,
       );
   within = λ k on. absurd (false≢true on);
   held = λ l is k lt off.
-      let same : r.layout ≡ l = same_some r.layout l (sym r.current ∙ is) in
+      let same : r.layout ≡ l = same_Some r.layout l (sym r.current ∙ is) in
       let k-in : k < r.layout.total_root_elements = subst (λ n. k < n) (same_total b.layout l r.layout is r.current) lt in
       record {
         pipeline = r.pipeline;
@@ -216,6 +209,6 @@ agree_after h p b d e f w r sp m = record {
         fit = subst (λ z. fits_owner (owner_in z k) (placed w Empty b.elements k) ≡ true) same (wiped_fit r.layout w b.elements k sp (r.fit k k-in));
       };
   special = λ l is i s.
-      let same : r.layout ≡ l = same_some r.layout l (sym r.current ∙ is) in
+      let same : r.layout ≡ l = same_Some r.layout l (sym r.current ∙ is) in
       (wiped_special w b.elements i (r.special i (ap special_slot same ∙ s)), λ on. absurd (false≢true on));
 }

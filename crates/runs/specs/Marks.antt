@@ -1,9 +1,7 @@
 -- Whole runs of an encoder, and what holds between the marks of each pass.
 use Rattle.std.specs.Prelude.{◌≡◌, ℕ, ◌<◌, Bool, true, false, cond, ◌&&◌, ◌⊎◌, List, [], ◌∷◌, ◌++◌, Some, ◌≢◌}
-use Rattle.command_list.specs.declared.command.Half.{Half}
-use Rattle.command_list.specs.declared.command.Half.TheVariants.{Graphics, Compute}
 use Rattle.command_list.specs.Commands.{Command}
-use Rattle.device.specs.Devices.{Device, step, play}
+use Rattle.device.specs.Devices.{Device, other, step, play}
 use Rattle.layouts.specs.declared.layout.PipelineLayout.{PipelineLayout}
 use Rattle.passes.specs.Account.{Pipeline, Account}
 use Rattle.passes.specs.Flush.{nothing, value_at, Holds}
@@ -119,10 +117,6 @@ TouchedVertex ms i = Some_touched touches_vertex ms i
 abbrev pub since_opening : List Moment → List Moment → List Moment
 since_opening since [] = since
 since_opening since (m ∷ ms) = cond (is_taken m.answer && is_opening m.call) (since_opening [] ms) (since_opening (since ++ (m ∷ [])) ms)
-
-abbrev pub other : Half → Half
-other Graphics = Compute
-other Compute = Graphics
 
 -- What holds of an accepted draw that finds the device d, where the mark before it found e. The calls since that mark, up to the draw, are since; those of its pass are ever.
 pub record Stands (c : DrawCall) (later : Moment) (since ever : List Moment) (e d : Device) : Type 0 where

@@ -1,6 +1,6 @@
 use Rattle.std.proofs.Common.{◌≡◌}
+use Rattle.device.proofs.Arrays.{read_replicate}
 use Rattle.board.specs.Boards.{slot_of, no_slot}
-use Rattle.board.proofs.Sets.{read_replicate}
 use Rattle.board.proofs.state.RootHalf.new.Goals as goal
 
 pub returns : goal.returns

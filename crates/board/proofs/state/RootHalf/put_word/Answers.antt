@@ -1,7 +1,7 @@
 use Rattle.std.proofs.Common.{Some, None, ap, ◌∙◌, arith}
 use Rattle.device.specs.Devices.{written, words, update}
+use Rattle.device.proofs.Arrays.{read_set}
 use Rattle.board.specs.Boards.{roots_of}
-use Rattle.board.proofs.Sets.{read_set}
 use Rattle.board.proofs.state.RootHalf.put_word.Goals as goal
 
 pub returns : goal.returns

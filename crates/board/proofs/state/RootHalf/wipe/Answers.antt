@@ -1,10 +1,10 @@
 use Rattle.std.proofs.Common.{◌≡◌, ℕ, ◌<◌, length, get_or, set, Some, sym, ap, ◌∙◌, arith}
 use Rattle.std.proofs.lemmas.Grind.{common_steps}
 use Rattle.device.specs.Devices.{update, wiped}
+use Rattle.device.proofs.Arrays.{read_set}
 use Rattle.board.specs.declared.state.RootHalf.{RootHalf}
 use Rattle.board.specs.declared.state.RootSlot.TheVariants.{Unset}
 use Rattle.board.specs.Boards.{slot_of, roots_of, no_slot}
-use Rattle.board.proofs.Sets.{read_set}
 use Rattle.board.proofs.state.RootHalf.wipe.Goals as goal
 
 -- a half with one slot unset

@@ -1,10 +1,10 @@
 use Rattle.std.proofs.Common.{◌≡◌, ◌≢◌, List, get_or, replicate, None, refl}
 use mathlib.Core.Path.{fun_ext}
 use Rattle.device.specs.Devices.{words_of}
+use Rattle.device.proofs.Arrays.{read_replicate}
 use Rattle.board.specs.declared.state.RootSlot.{RootSlot}
 use Rattle.board.specs.declared.state.RootSlot.TheVariants.{Unset, Table, Buffer, Words}
 use Rattle.board.specs.Boards.{slot_of}
-use Rattle.board.proofs.Sets.{read_replicate}
 use Rattle.board.proofs.state.RootSlot.words.Goals as goal
 
 -- a slot that holds no words

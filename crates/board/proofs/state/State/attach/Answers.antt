@@ -1,10 +1,10 @@
 use Rattle.std.proofs.Common.{◌≡◌, ℕ, ◌+◌, ◌<◌, length, get_or, set, ap, ◌∙◌, arith}
 use Rattle.device.specs.Devices.{update, attached}
+use Rattle.device.proofs.Arrays.{read_set}
 use Rattle.board.specs.declared.state.Slot.{Slot}
 use Rattle.board.specs.declared.state.State.{State}
 use Rattle.board.specs.declared.state.View.{View}
 use Rattle.board.specs.Boards.{view_of, no_vertex, device_of}
-use Rattle.board.proofs.Sets.{read_set}
 use Rattle.board.proofs.state.State.attach.Goals as goal
 
 -- a state with one vertex view replaced and counted

@@ -3,12 +3,12 @@ use mathlib.Core.Path.{fun_ext}
 use Rattle.command_list.specs.declared.command.Half.{Half}
 use Rattle.command_list.specs.declared.command.Half.TheVariants.{Graphics, Compute}
 use Rattle.device.specs.Devices.{start}
+use Rattle.device.proofs.Arrays.{read_replicate}
 use Rattle.board.specs.declared.state.RootHalf.{RootHalf}
 use Rattle.board.specs.declared.state.Slot.{Slot}
 use Rattle.board.specs.declared.state.State.{State}
 use Rattle.board.specs.declared.state.View.{View}
 use Rattle.board.specs.Boards.{roots_of, view_of, no_vertex, halves_of, device_of}
-use Rattle.board.proofs.Sets.{read_replicate}
 use Rattle.board.proofs.state.State.new.Goals as goal
 
 -- a state of these parts, with no pipeline and no draw

@@ -3,8 +3,8 @@ use Rattle.std.proofs.Common.{◌≡◌, ℕ, zero, suc, ◌+◌, ◌<◌, ◌�
 use Rattle.std.proofs.lemmas.Bool.{cases_eq, cond_both, cond-true}
 use Rattle.command_list.specs.Commands.{Command}
 use Rattle.device.specs.Devices.{Device, play}
+use Rattle.device.specs.Writes.{gathered}
 use Rattle.device.proofs.Runs.{play_append}
-use Rattle.passes.specs.Flush.{gathered}
 
 -- K is what the commands of other slots keep; it goes over from one to the next
 module _ (t : ℕ → Bool) (f : ℕ → List Command) (K : Device → Device → Type 0)
