@@ -3,7 +3,7 @@ use Rattle.std.specs.Prelude.{◌≡◌, ℕ, true, false, List, [], ◌∷◌, 
 use Rattle.command_list.specs.declared.command.Barrier.{Barrier}
 use Rattle.command_list.specs.declared.command.BarrierType.TheVariants.{Transition}
 use Rattle.command_list.specs.declared.command.Half.TheVariants.{Graphics}
-use Rattle.command_list.specs.Commands.{Command, BeginEvent, EndEvent, SetDescriptorHeaps, SetRootSignature, SetPipelineState, IASetPrimitiveTopology, IASetVertexBuffers, SetRoot32BitConstant, SetRootDescriptorTable, SetRootConstantBufferView, OMSetRenderTargets, ClearRenderTargetView, RSSetViewports, RSSetScissorRects, DrawInstanced}
+use Rattle.command_list.specs.Commands.{Command, BeginEvent, EndEvent, SetDescriptorHeaps, SetRootSignature, SetPipelineState, IASetPrimitiveTopology, IASetVertexBuffers, SetRoot32BitConstant, SetRootDescriptorTable, SetRootConstantBufferView, OMSetRenderTargets, ClearRenderTargetView, RSSetViewports, RSSetScissorRects, ResourceBarrier, DrawInstanced}
 use Rattle.layouts.specs.declared.info.Owner.TheVariants.{Table, Uniform, Special}
 use Rattle.layouts.specs.declared.layout.PipelineLayout.{PipelineLayout}
 use Rattle.layouts.specs.Layouts.{owner_in}
@@ -24,10 +24,11 @@ plot_label = 0xE9 ∷ 0 ∷ []
 abbrev pub plot_upload : Barrier
 plot_upload = record { kind = Transition; resource = 7; subresource = 0xFFFF_FFFF; before = 0x400; after = 0x1 }
 
--- a target that is cleared, one pipeline with its arguments, a draw from vertex 7, the same again, and one from vertex 8
-abbrev pub plot_commands : List Command
-plot_commands =
-    BeginEvent (0xE9 ∷ 0 ∷ [])
+-- barriers; under a label a target that is cleared, one pipeline with its arguments, a draw from vertex 7, the same again, and one from vertex 8
+abbrev pub plot_commands : List Barrier → List ℕ → List Command
+plot_commands upload label =
+    ResourceBarrier upload
+    ∷ BeginEvent label
     ∷ SetDescriptorHeaps true
     ∷ OMSetRenderTargets (1 ∷ [])
     ∷ ClearRenderTargetView 1 0x3F80_0000 0x3F80_0000 0x3F80_0000 0x3F80_0000

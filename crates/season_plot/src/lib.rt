@@ -30,9 +30,6 @@ const LINE_STRIP: u32 = 3;
 // The label: a small e with an acute accent.
 const LABEL: [u8; 2] = [0xC3, 0xA9];
 
-// The label's units with their final 0.
-pub const UNITS: [u16; 2] = [0xE9, 0];
-
 // The samples' buffer was copied to, and is read as vertices.
 pub const UPLOAD: BufferBarrier = BufferBarrier {
     resource: 7,
@@ -109,15 +106,16 @@ pub fn upload() -> Option<Barrier>
     barrier(&UPLOAD)
 }
 
-pub const COUNT: usize = 21;
+pub const COUNT: usize = 22;
 
-// The plot: a target that is cleared, one pipeline with its arguments, a draw from vertex 7, the
-// same again, and one from vertex 8.
-pub fn commands() -> [Command<'static>; COUNT]
-    ensures { map given_command result ≡ plot_commands }
+// The plot: the upload's barriers, then under a label a target that is cleared, one pipeline with its
+// arguments, a draw from vertex 7, the same again, and one from vertex 8.
+pub fn commands<'a>(upload: &'a [Barrier], label: &'a [u16]) -> [Command<'a>; COUNT]
+    ensures { map given_command result ≡ plot_commands upload.now label.now }
 {
     [
-        Command::BeginEvent(&UNITS),
+        Command::ResourceBarrier(upload),
+        Command::BeginEvent(label),
         Command::Fixed(Fixed::SetDescriptorHeaps(true)),
         Command::OMSetRenderTargets(&TARGETS),
         Command::Fixed(Fixed::ClearRenderTargetView {

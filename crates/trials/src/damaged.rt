@@ -1,7 +1,9 @@
 // Damaged files: each refusal at its place, and the reader against a second reading.
 use crate::plain;
+use command_list::fault::Fault;
 use list_file::{check as records, rewrite, write};
 use std::process::Abort;
+use std::test::Fail;
 
 // What the reader says of a file: a refusal by its number, as hosts see it.
 fn said(file: &[u8]) -> Result<usize, (u8, usize)> {
@@ -95,15 +97,18 @@ fn nine_targets(rt: HostRuntime) {
 }
 
 // The season plot as a list.
-fn plot(rt: &impl Abort) -> [u8; 262] {
-    let mut bytes = [0u8; 262];
-    assert_eq!(rt; write(&season_plot::commands(), &mut bytes), Ok(262));
-    bytes
+fn plot(rt: &impl Abort) -> Result<[u8; 282], Fault> {
+    let label = season_plot::label()?;
+    let upload = season_plot::upload();
+    let commands = season_plot::commands(upload.as_slice(), label.units());
+    let mut bytes = [0u8; 282];
+    assert_eq!(rt; write(&commands, &mut bytes), Ok(282));
+    Ok(bytes)
 }
 
 #[test]
-fn cut_at_every_length(rt: HostRuntime) {
-    let bytes = plot(&rt);
+fn cut_at_every_length(rt: HostRuntime) -> Result<(), Fail> {
+    let bytes = plot(&rt)?;
     let mut whole = 0;
     for n in 0..=bytes.len() {
         let part = &bytes[0..n];
@@ -112,12 +117,13 @@ fn cut_at_every_length(rt: HostRuntime) {
             whole = n;
         }
     }
-    assert_eq!(rt; whole, 262);
+    assert_eq!(rt; whole, 282);
+    Ok(())
 }
 
 #[test]
-fn one_byte_changed_at_every_offset(rt: HostRuntime) {
-    let bytes = plot(&rt);
+fn one_byte_changed_at_every_offset(rt: HostRuntime) -> Result<(), Fail> {
+    let bytes = plot(&rt)?;
     for at in 0..bytes.len() {
         for b in 0..=255u8 {
             let mut changed = bytes;
@@ -125,17 +131,19 @@ fn one_byte_changed_at_every_offset(rt: HostRuntime) {
             assert_eq!(rt; said(&changed), plain::read(&changed));
         }
     }
+    Ok(())
 }
 
 #[test]
-fn rewritten_to_its_own_bytes(rt: HostRuntime) {
-    let bytes = plot(&rt);
-    let mut again = [7u8; 263];
-    assert_eq!(rt; rewrite(&bytes, &mut again), Ok(262));
-    assert!(rt; again.get(0..262) == Some(&bytes[0..262]));
-    assert_eq!(rt; again[262], 7);
-    let mut short = [7u8; 261];
+fn rewritten_to_its_own_bytes(rt: HostRuntime) -> Result<(), Fail> {
+    let bytes = plot(&rt)?;
+    let mut again = [7u8; 283];
+    assert_eq!(rt; rewrite(&bytes, &mut again), Ok(282));
+    assert!(rt; again.get(0..282) == Some(&bytes[0..282]));
+    assert_eq!(rt; again[282], 7);
+    let mut short = [7u8; 281];
     let fault = rewrite(&bytes, &mut short).map_err(|fault| u8::from(fault.number));
     assert_eq!(rt; fault, Err(10));
     assert_eq!(rt; short[0], 7);
+    Ok(())
 }

@@ -1,4 +1,5 @@
 // Lists as long as a list may be.
+use command_list::command::Command;
 use command_list::fault::{FULL, Fault};
 use command_list::reader::MOST_BYTES;
 use list_file::{check as records, rewrite};
@@ -8,8 +9,10 @@ use std::test::Fail;
 // The plot's commands one after the other, as many as fit; how many, and where the list ends.
 // The program has such a loop too: shared, it would need a contract, which no caller could use.
 fn fill(bytes: &mut [u8]) -> Result<(usize, usize), Fault> {
+    let label = season_plot::label()?;
+    let upload = season_plot::upload();
+    let commands = season_plot::commands(upload.as_slice(), label.units());
     let mut end = begin(bytes)?;
-    let commands = season_plot::commands();
     for (count, command) in commands.iter().cycle().take(MOST_BYTES).enumerate() {
         let Ok(next) = command.append_to(bytes, end) else {
             return Ok((count, end));
@@ -45,14 +48,15 @@ fn longer_bytes_are_refused(rt: HostRuntime) {
 
 #[test]
 fn the_last_byte_is_used(rt: HostRuntime) -> Result<(), Fail> {
-    let commands = season_plot::commands();
+    let label = season_plot::label()?;
+    let event = Command::BeginEvent(label.units());
     let mut bytes = [0u8; 8];
     let end = begin(&mut bytes)?;
-    assert_eq!(rt; commands[0].append_to(&mut bytes, end), Ok(8));
+    assert_eq!(rt; event.append_to(&mut bytes, end), Ok(8));
     assert_eq!(rt; bytes, [1, 0, 5, 1, 0, 0xE9, 0, 0]);
     let mut less = [9u8; 7];
     assert_eq!(rt; begin(&mut less), Ok(1));
-    assert_eq!(rt; commands[0].append_to(&mut less, 1), Err(FULL));
+    assert_eq!(rt; event.append_to(&mut less, 1), Err(FULL));
     assert_eq!(rt; less, [1, 9, 9, 9, 9, 9, 9]);
     Ok(())
 }

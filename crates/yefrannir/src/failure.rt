@@ -13,6 +13,7 @@ pub(crate) enum Failure {
     NoLabel,
     OtherBytes,
     OtherState,
+    OtherSignature,
     // What is refused, and why.
     Refused(String, Fault),
     // A file that cannot be read, and why.
@@ -36,6 +37,9 @@ impl fmt::Display for Failure {
             Failure::NoLabel => f.write_str("which label? give a text"),
             Failure::OtherBytes => f.write_str("the rewritten plot has other bytes"),
             Failure::OtherState => f.write_str("the board's state and the list's differ"),
+            Failure::OtherSignature => {
+                f.write_str("the board's root signature is not the layout's")
+            }
             Failure::Refused(what, fault) => write!(f, "{what} is refused: {fault}"),
             Failure::Unread(path, error) => write!(f, "cannot read {path}: {error}"),
             Failure::Memory(error) => write!(f, "{error}"),

@@ -9,17 +9,21 @@ mod shown;
 mod timing;
 
 use board::board::Board;
+use command_list::command::{Barrier, BarrierType, Half};
 use command_list::fault::Fault;
 use command_list::record::Record;
 use device::ration::Ration;
 use device::recorder::Recorder;
 use facts::{BUFFER_FLAGS, TEXTURE_FLAGS, print_label, print_layout, print_usage};
 use failure::{Failure, refusal};
+use layouts::layout::PipelineLayout;
 use list_bytes::{ListBytes, measured};
 use list_file::{check, records_are_known, rewrite, write};
 use list_play::board_of;
 use list_writer::writer::Recordable;
 use named::Named;
+use resources::batch::transition;
+use resources::scratch::{Mark, Scratch};
 use resources::uses::{BufferUses, TextureUses};
 use show::Operands;
 use shown::{print_play, same};
@@ -30,8 +34,8 @@ use timing::{time_list, time_sample};
 
 const HELP: &str = "yefrannir shows Direct3D 12 command lists
 
-  yefrannir                     record the embedded plot, read it back, print it, rewrite it, and
-                                play it on a board
+  yefrannir                     make the embedded plot's layout, record the plot, read it back,
+                                print it, rewrite it, and play it on a board
   yefrannir show FILE           print the records of a list file
   yefrannir play FILE           play a list file on a board: what each draw finds on the device,
                                 and how often each command was made and each slot written
@@ -63,9 +67,27 @@ fn print_list(rt: &(impl Print + AllocGlobal), file: Named) -> Result<(), Failur
     file.each_record(rt.alloc(), |at, record| print_record(rt, at, record))
 }
 
-// Gives the plot's commands to a recorder.
+// An entry of a scratch that no barrier was put in.
+const FREE: Barrier = Barrier {
+    kind: BarrierType::Uav,
+    resource: 0,
+    subresource: 0,
+    before: 0,
+    after: 0,
+};
+
+// Gives the plot to a recorder: the upload as a transition, which records the first command, and the others as they are.
 fn record_plot<R: Recorder>(recorder: &mut R) -> Result<(), Fault> {
-    for command in season_plot::commands() {
+    let mut scratch = Scratch {
+        entries: &mut [FREE],
+        mark: Mark { fill: 0 },
+    };
+    transition(recorder, &mut scratch, &[season_plot::UPLOAD])?;
+    let label = season_plot::label()?;
+    for command in season_plot::commands(&[], label.units())
+        .into_iter()
+        .skip(1)
+    {
         recorder.record(command)?;
     }
     Ok(())
@@ -87,22 +109,30 @@ fn plot_list(bytes: &mut [u8]) -> Result<&[u8], Fault> {
 
 // Whether the plot, written in one call, and its list, rewritten, have the list's bytes.
 fn bytes_agree(list: &[u8]) -> Result<bool, Fault> {
+    let label = season_plot::label()?;
+    let upload = season_plot::upload();
+    let commands = season_plot::commands(upload.as_slice(), label.units());
     let mut written = [0u8; 1024];
-    let end = write(&season_plot::commands(), &mut written)?;
+    let end = write(&commands, &mut written)?;
     let mut again = [0u8; 1024];
     let size = rewrite(list, &mut again)?;
     Ok(written.get(0..end) == Some(list) && again.get(0..size) == Some(list))
 }
 
-// Whether a board that was given the plot and one that its list was played on show the same.
-fn boards_agree(list: &[u8]) -> Result<bool, Fault> {
+// A board that was given the plot.
+fn plot_board() -> Result<Board, Fault> {
     let mut board = Board::new(ALLOWANCE);
     record_plot(&mut board)?;
-    Ok(same(&board, &board_of(list)?))
+    Ok(board)
 }
 
-// The plot's list: printed, rewritten, and played on a board.
-fn show_plot(rt: &(impl Print + AllocGlobal), plot: Named) -> Result<(), Failure> {
+// The plot's list: printed, rewritten, and played on a board, which has to agree with one that was given the plot and
+// with the plot's layout.
+fn show_plot(
+    rt: &(impl Print + AllocGlobal),
+    plot: Named,
+    layout: &PipelineLayout,
+) -> Result<(), Failure> {
     let Named { list, .. } = plot;
     let refusal = |fault| plot.refusal(rt.alloc(), fault);
     print_list(rt, plot)?;
@@ -112,30 +142,32 @@ fn show_plot(rt: &(impl Print + AllocGlobal), plot: Named) -> Result<(), Failure
     }
     let end = list.len();
     println!(rt; "{count} records in {end} bytes; rewritten, the bytes are equal")?;
-    if !boards_agree(list).map_err(refusal)? {
+    let board = board_of(list).map_err(refusal)?;
+    if !same(&board, &plot_board().map_err(refusal)?) {
         return Err(Failure::OtherState);
     }
     println!(rt; "played on a board, its state and the list's agree")?;
+    if board.signature(Half::Graphics) != layout.signature() {
+        return Err(Failure::OtherSignature);
+    }
+    println!(rt; "the board's root signature is the layout's")?;
     Ok(())
 }
 
 // The plot's layout.
-fn show_layout(rt: &(impl Print + AllocGlobal)) -> Result<(), Failure> {
-    let layout = season_plot::layout().map_err(|fault| refusal(
-        rt.alloc(),
-        "the plot's layout",
-        fault,
-    ))?;
-    print_layout(rt, &layout)
+fn plot_layout(rt: &impl AllocGlobal) -> Result<PipelineLayout, Failure> {
+    season_plot::layout().map_err(|fault| refusal(rt.alloc(), "the plot's layout", fault))
 }
 
 // The embedded plot.
 fn run_plot(rt: &(impl Print + AllocGlobal)) -> Result<(), Failure> {
     records_are_known();
+    let layout = plot_layout(rt)?;
+    print_layout(rt, &layout)?;
     let name = "the plot";
     let mut bytes = [0u8; 1024];
     let list = plot_list(&mut bytes).map_err(|fault| refusal(rt.alloc(), name, fault))?;
-    show_plot(rt, Named { name, list })
+    show_plot(rt, Named { name, list }, &layout)
 }
 
 // The bytes of a file.
@@ -241,7 +273,7 @@ fn run(rt: &HostRuntime) -> Result<(), Failure> {
         Asked::Buffer(usage) => print_usage(rt, usage, usage.bits, &BUFFER_FLAGS),
         Asked::Texture(usage) => print_usage(rt, usage, usage.bits, &TEXTURE_FLAGS),
         Asked::Label(text) => print_label(rt, text.as_str()),
-        Asked::Layout => show_layout(rt),
+        Asked::Layout => print_layout(rt, &plot_layout(rt)?),
         Asked::TimeFile(path) => with_file(rt, path.as_str(), |file| time_list(rt, file)),
         Asked::TimeSample => time_sample(rt),
     }

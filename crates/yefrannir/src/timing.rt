@@ -1,6 +1,7 @@
 // How long writing, reading and rewriting a list takes.
-use crate::failure::Failure;
+use crate::failure::{Failure, refusal};
 use crate::named::Named;
+use command_list::fault::Fault;
 use command_list::reader::MOST_BYTES;
 use list_file::{check, rewrite};
 use list_writer::writer::{Recordable, begin};
@@ -9,17 +10,18 @@ use std::time::Instant;
 
 // As many records of the plot, one after the other, as a list takes, and how long that list is.
 // By the writer alone, whose time is told: through a recorder it takes half as long again.
-fn fill(bytes: &mut [u8]) -> usize {
-    let Ok(mut end) = begin(bytes) else {
-        return 0;
-    };
-    for command in season_plot::commands().iter().cycle().take(MOST_BYTES) {
+fn fill(bytes: &mut [u8]) -> Result<usize, Fault> {
+    let label = season_plot::label()?;
+    let upload = season_plot::upload();
+    let commands = season_plot::commands(upload.as_slice(), label.units());
+    let mut end = begin(bytes)?;
+    for command in commands.iter().cycle().take(MOST_BYTES) {
         let Ok(next) = command.append_to(bytes, end) else {
             break;
         };
         end = next;
     }
-    end
+    Ok(end)
 }
 
 fn told(rt: &impl Print, what: &str, bytes: usize, nanos: u128) -> Result<(), Failure> {
@@ -48,14 +50,14 @@ pub(crate) fn time_list(
 
 // The same of a list of 64 KiB of mixed records, which is written first.
 pub(crate) fn time_sample(rt: &(impl Print + Clock + AllocGlobal)) -> Result<(), Failure> {
+    let name = "a list of 64 KiB";
     let mut bytes = [0u8; MOST_BYTES];
     let start = Instant::now(rt)?;
-    let end = fill(&mut bytes);
+    let end = fill(&mut bytes).map_err(|fault| refusal(rt.alloc(), name, fault))?;
     let written = start.elapsed(rt)?;
     told(rt, "written", end, written.as_nanos())?;
     let Some(list) = bytes.get(0..end) else {
         return Ok(());
     };
-    let name = "a list of 64 KiB";
     time_list(rt, Named { name, list })
 }
