@@ -6,7 +6,11 @@ mod fronts;
 pub mod line;
 pub mod names;
 pub mod not_done;
-mod passes;
-mod settings;
+mod outside;
+#[cfg(test)]
+mod printing_tests;
+#[cfg(test)]
+mod reading_tests;
 pub mod shown;
+mod within;
 mod words;

@@ -1,14 +1,14 @@
 // What a line of a script says.
 use crate::definitions::{compute_pipeline, layout, render_pipeline, scratch};
 use crate::not_done::NotDone;
-use crate::passes::{
+use crate::outside::{
     begin_compute_pass, begin_render_pass, transition_buffers, transition_textures,
 };
-use crate::settings::{
+use crate::within::{
     dispatch, dispatch_indirect, draw, draw_indirect, set_bind_group, set_immediates,
     set_scissor_rect, set_vertex_buffer, set_viewport,
 };
-use crate::words::{bare, number};
+use crate::words::number;
 use bindings::binding::BufferBinding;
 use bindings::rect::Rect;
 use encoder::attachment::ColorAttachment;
@@ -173,7 +173,14 @@ fn read_words(alloc: Global, verb: &str, operands: &[&str]) -> Result<Line, NotD
     }
 }
 
-// What a line says, without its comment.
+// A line without its comment and the blanks round it.
+pub fn bare(text: &str) -> &str {
+    text.split_once('#')
+        .map_or(text, |(before, _)| before)
+        .trim()
+}
+
+// What a line says.
 pub fn read(alloc: Global, text: &str) -> Result<Line, NotDone> {
     let words: Vec<&str> = bare(text).split_whitespace().collect(alloc)?;
     match words.as_slice() {

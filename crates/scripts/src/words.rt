@@ -3,13 +3,6 @@ use crate::not_done::NotDone;
 use std::alloc::Global;
 use std::num::TryFromIntError;
 
-// A line without its comment and the blanks round it.
-pub(crate) fn bare(text: &str) -> &str {
-    text.split_once('#')
-        .map_or(text, |(before, _)| before)
-        .trim()
-}
-
 // The number that a word says: decimal, or in hex behind 0x.
 fn whole(word: &str) -> Option<u64> {
     let (digits, radix) = match word.strip_prefix("0x") {

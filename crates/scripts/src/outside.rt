@@ -1,4 +1,4 @@
-// Calls that open passes, and calls between passes.
+// Calls outside passes: those that open one, and changes of usage.
 use crate::fronts::{Front, Fronts};
 use crate::line::OwnedCall;
 use crate::not_done::NotDone;
