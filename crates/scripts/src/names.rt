@@ -1,4 +1,7 @@
 // The layouts and pipelines that a script has defined so far, by their names.
+ghost use Rattle.std.specs.Prelude.{◌≡◌, Some, None, MatchResult, OnOk, IfOk, string_bytes};
+ghost use Rattle.std.specs.BTreeMap.{get_by_text};
+
 use crate::line::{ComputeParts, LayoutParts, RenderParts};
 use crate::not_done::NotDone;
 use layouts::layout::PipelineLayout;
@@ -16,7 +19,9 @@ pub struct Names {
 }
 
 // What a name stands for, if it is defined.
-fn named<T: Copy>(alloc: Global, defined: &BTreeMap<String, T>, name: &str) -> Result<T, NotDone> {
+fn named<T: Copy>(alloc: Global, defined: &BTreeMap<String, T>, name: &str) -> Result<T, NotDone>
+    ensures { MatchResult result (λ v. get_by_text defined.now name.now ≡ Some v) (λ _. get_by_text defined.now name.now ≡ None) }
+{
     match defined.get(name) {
         Some(value) => Ok(*value),
         None => Err(NotDone::Unknown(String::from_str(alloc, name)?)),
@@ -24,6 +29,8 @@ fn named<T: Copy>(alloc: Global, defined: &BTreeMap<String, T>, name: &str) -> R
 }
 
 impl Names {
+    ghost use Rattle.scripts.specs.Naming.{DefinesLayout, DefinesRenderPipeline, DefinesComputePipeline};
+
     // No name.
     pub fn new(alloc: Global) -> Names {
         Names {
@@ -34,20 +41,28 @@ impl Names {
         }
     }
 
-    pub fn layout(&self, name: &str) -> Result<PipelineLayout, NotDone> {
+    pub fn layout(&self, name: &str) -> Result<PipelineLayout, NotDone>
+        ensures { MatchResult result (λ l. get_by_text self.now.layouts name.now ≡ Some l) (λ _. get_by_text self.now.layouts name.now ≡ None) }
+    {
         named(self.alloc, &self.layouts, name)
     }
 
-    pub fn render_pipeline(&self, name: &str) -> Result<RenderPipeline, NotDone> {
+    pub fn render_pipeline(&self, name: &str) -> Result<RenderPipeline, NotDone>
+        ensures { MatchResult result (λ p. get_by_text self.now.render_pipelines name.now ≡ Some p) (λ _. get_by_text self.now.render_pipelines name.now ≡ None) }
+    {
         named(self.alloc, &self.render_pipelines, name)
     }
 
-    pub fn compute_pipeline(&self, name: &str) -> Result<ComputePipeline, NotDone> {
+    pub fn compute_pipeline(&self, name: &str) -> Result<ComputePipeline, NotDone>
+        ensures { MatchResult result (λ p. get_by_text self.now.compute_pipelines name.now ≡ Some p) (λ _. get_by_text self.now.compute_pipelines name.now ≡ None) }
+    {
         named(self.alloc, &self.compute_pipelines, name)
     }
 
     // A layout, which is refused as `PipelineLayout::new` says.
-    pub fn define_layout(&mut self, name: String, parts: &LayoutParts) -> Result<(), NotDone> {
+    pub fn define_layout(&mut self, name: String, parts: &LayoutParts) -> Result<(), NotDone>
+        ensures { OnOk result (DefinesLayout (string_bytes name) parts.now self.old.layouts self.new.layouts) }
+    {
         let layout = PipelineLayout::new(
             parts.signature,
             parts.total,
@@ -64,7 +79,9 @@ impl Names {
         &mut self,
         name: String,
         parts: &RenderParts,
-    ) -> Result<(), NotDone> {
+    ) -> Result<(), NotDone>
+        ensures { OnOk result (DefinesRenderPipeline (string_bytes name) parts.now self.old.layouts self.old.render_pipelines self.new.render_pipelines) }
+    {
         let pipeline = RenderPipeline {
             handle: parts.handle,
             layout: self.layout(parts.layout.as_str())?,
@@ -80,7 +97,9 @@ impl Names {
         &mut self,
         name: String,
         parts: &ComputeParts,
-    ) -> Result<(), NotDone> {
+    ) -> Result<(), NotDone>
+        ensures { OnOk result (DefinesComputePipeline (string_bytes name) parts.now self.old.layouts self.old.compute_pipelines self.new.compute_pipelines) }
+    {
         let pipeline = ComputePipeline {
             handle: parts.handle,
             layout: self.layout(parts.layout.as_str())?,

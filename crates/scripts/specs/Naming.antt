@@ -1,0 +1,29 @@
+-- What a definition makes of the names before it.
+use Rattle.std.specs.Prelude.{◌≡◌, ℕ, List, Some, String, string_bytes}
+use Rattle.std.specs.BTreeMap.{BTreeMap, get_by_text}
+use Rattle.std.specs.Map.{update}
+use Rattle.std.specs.Str.{bytes_eq}
+use Rattle.layouts.specs.declared.layout.PipelineLayout.{PipelineLayout}
+use Rattle.layouts.specs.declared.pipeline.RenderPipeline.{RenderPipeline}
+use Rattle.layouts.specs.declared.pipeline.ComputePipeline.{ComputePipeline}
+use Rattle.layouts.specs.Owners.{placed}
+use Rattle.scripts.specs.declared.line.LayoutParts.{LayoutParts}
+use Rattle.scripts.specs.declared.line.RenderParts.{RenderParts}
+use Rattle.scripts.specs.declared.line.ComputeParts.{ComputeParts}
+
+-- the name stands for the value now, and each other name for what it stood for before
+abbrev pub Defines : {X Y : Type 0} → List ℕ → X → BTreeMap (String Y) X → BTreeMap (String Y) X → Type 0
+Defines name value old new = (q : List ℕ) → get_by_text new q ≡ update bytes_eq (get_by_text old) name (Some value) q
+
+-- a layout of the parts
+abbrev pub HasParts : PipelineLayout → LayoutParts → Type 0
+HasParts l parts = (l.signature ≡ parts.signature) × (l.total_root_elements ≡ parts.total) × (l.special_constants ≡ parts.special) × (l.immediates_info ≡ parts.immediates) × (l.bind_group_infos ≡ placed parts.groups.items)
+
+abbrev pub DefinesLayout : {Y : Type 0} → List ℕ → LayoutParts → BTreeMap (String Y) PipelineLayout → BTreeMap (String Y) PipelineLayout → Type 0
+DefinesLayout name parts old new = (l : PipelineLayout) × (HasParts l parts × Defines name l old new)
+
+abbrev pub DefinesRenderPipeline : {Y : Type 0} → List ℕ → RenderParts → BTreeMap (String Y) PipelineLayout → BTreeMap (String Y) RenderPipeline → BTreeMap (String Y) RenderPipeline → Type 0
+DefinesRenderPipeline name parts layouts old new = (l : PipelineLayout) × ((get_by_text layouts (string_bytes parts.layout) ≡ Some l) × Defines name (record { handle = parts.handle; layout = l; topology = parts.topology; vertex_strides = parts.strides }) old new)
+
+abbrev pub DefinesComputePipeline : {Y : Type 0} → List ℕ → ComputeParts → BTreeMap (String Y) PipelineLayout → BTreeMap (String Y) ComputePipeline → BTreeMap (String Y) ComputePipeline → Type 0
+DefinesComputePipeline name parts layouts old new = (l : PipelineLayout) × ((get_by_text layouts (string_bytes parts.layout) ≡ Some l) × Defines name (record { handle = parts.handle; layout = l }) old new)
