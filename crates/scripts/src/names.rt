@@ -1,6 +1,6 @@
 // The layouts and pipelines that a script has defined so far, by their names.
-ghost use Rattle.std.specs.Prelude.{◌≡◌, Some, None, MatchResult, OnOk, IfOk, string_bytes};
-ghost use Rattle.std.specs.BTreeMap.{get_by_text};
+ghost use Rattle.std.specs.Prelude.{◌≡◌, Some, None, MatchResult, OnOk, OnErr, IfOk, string_bytes};
+ghost use Rattle.std.specs.BTreeMap.{get_by_text, IsEmpty};
 
 use crate::line::{ComputeParts, LayoutParts, RenderParts};
 use crate::not_done::NotDone;
@@ -29,10 +29,12 @@ fn named<T: Copy>(alloc: Global, defined: &BTreeMap<String, T>, name: &str) -> R
 }
 
 impl Names {
-    ghost use Rattle.scripts.specs.Naming.{DefinesLayout, DefinesRenderPipeline, DefinesComputePipeline};
+    ghost use Rattle.scripts.specs.Naming.{told, verdict_of, Keeps, DefinesLayout, DefinesRenderPipeline, DefinesComputePipeline};
 
     // No name.
-    pub fn new(alloc: Global) -> Names {
+    pub fn new(alloc: Global) -> Names
+        ensures { IsEmpty result.layouts × IsEmpty result.render_pipelines × IsEmpty result.compute_pipelines }
+    {
         Names {
             alloc,
             layouts: BTreeMap::new(alloc),
@@ -61,7 +63,9 @@ impl Names {
 
     // A layout, which is refused as `PipelineLayout::new` says.
     pub fn define_layout(&mut self, name: String, parts: &LayoutParts) -> Result<(), NotDone>
-        ensures { OnOk result (DefinesLayout (string_bytes name) parts.now self.old.layouts self.new.layouts) }
+        ensures answer { MatchResult result (λ _. verdict_of parts.now ≡ None) (λ e. verdict_of parts.now ≡ told e) }
+        ensures defined { OnOk result (DefinesLayout (string_bytes name) parts.now self.old.layouts self.new.layouts) }
+        ensures kept { OnErr result (Keeps self.old.layouts self.new.layouts) }
     {
         let layout = PipelineLayout::new(
             parts.signature,
@@ -80,7 +84,8 @@ impl Names {
         name: String,
         parts: &RenderParts,
     ) -> Result<(), NotDone>
-        ensures { OnOk result (DefinesRenderPipeline (string_bytes name) parts.now self.old.layouts self.old.render_pipelines self.new.render_pipelines) }
+        ensures kept { OnErr result (Keeps self.old.render_pipelines self.new.render_pipelines) }
+        ensures defined { OnOk result (DefinesRenderPipeline (string_bytes name) parts.now self.old.layouts self.old.render_pipelines self.new.render_pipelines) }
     {
         let pipeline = RenderPipeline {
             handle: parts.handle,
@@ -98,7 +103,8 @@ impl Names {
         name: String,
         parts: &ComputeParts,
     ) -> Result<(), NotDone>
-        ensures { OnOk result (DefinesComputePipeline (string_bytes name) parts.now self.old.layouts self.old.compute_pipelines self.new.compute_pipelines) }
+        ensures kept { OnErr result (Keeps self.old.compute_pipelines self.new.compute_pipelines) }
+        ensures defined { OnOk result (DefinesComputePipeline (string_bytes name) parts.now self.old.layouts self.old.compute_pipelines self.new.compute_pipelines) }
     {
         let pipeline = ComputePipeline {
             handle: parts.handle,

@@ -1,5 +1,5 @@
 // Why a line of a script is not done.
-ghost use Rattle.std.specs.Prelude.{◌≡◌};
+ghost use Rattle.std.specs.Prelude.{◌≡◌, alloc_error};
 ghost use Rattle.scripts.specs.declared.not_done.NotDone.TheVariants.{Refused, Memory};
 
 use command_list::fault::Fault;
@@ -54,6 +54,8 @@ impl From<AllocError> for NotDone {
 }
 
 impl<T: Drop> From<AllocFailed<T>> for NotDone {
+    ghost from_gives = { λ _ r. r ≡ Memory alloc_error };
+
     fn from(failed: AllocFailed<T>) -> NotDone {
         NotDone::Memory(AllocError::from(failed))
     }
