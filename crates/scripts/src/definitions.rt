@@ -1,0 +1,128 @@
+// Lines that define: layouts, pipelines, and the scratch that calls are given.
+use crate::fronts::{Front, Fronts};
+use crate::line::{ComputeParts, LayoutParts, Line, RenderParts};
+use crate::not_done::NotDone;
+use crate::words::number;
+use layouts::info::{BindGroupInfo, GroupEntry, ImmediatesInfo, PipelineLayoutSpecialConstants};
+use std::alloc::Global;
+
+// A part of a layout.
+#[derive(Clone, Copy)]
+enum Part {
+    Special(PipelineLayoutSpecialConstants),
+    Immediates(ImmediatesInfo),
+    Group(GroupEntry),
+}
+
+impl Front for Part {
+    fn front(words: &[&str]) -> Result<(Part, usize), NotDone> {
+        match words {
+            ["special", slot, "own", ..] => Ok((special(slot, true)?, 3)),
+            ["special", slot, ..] => Ok((special(slot, false)?, 2)),
+            ["immediates", slot, size, ..] => {
+                let (root_index, size) = (number(slot)?, number(size)?);
+                Ok((Part::Immediates(ImmediatesInfo { root_index, size }), 3))
+            }
+            ["group", index, base, kind, uniforms, ..] => {
+                let info = BindGroupInfo {
+                    base_root_index: number(base)?,
+                    table: is_table(kind)?,
+                    uniforms: number(uniforms)?,
+                };
+                let index = number(index)?;
+                Ok((Part::Group(GroupEntry { index, info }), 5))
+            }
+            _ => Err(NotDone::BadLine),
+        }
+    }
+}
+
+// The special constants at a slot.
+fn special(slot: &str, own_signature: bool) -> Result<Part, NotDone> {
+    let root_index = number(slot)?;
+    Ok(Part::Special(PipelineLayoutSpecialConstants {
+        root_index,
+        own_signature,
+    }))
+}
+
+// Whether a group has a table.
+fn is_table(word: &str) -> Result<bool, NotDone> {
+    match word {
+        "table" => Ok(true),
+        "plain" => Ok(false),
+        _ => Err(NotDone::BadLine),
+    }
+}
+
+pub(crate) fn layout(alloc: Global, operands: &[&str]) -> Result<Line, NotDone> {
+    let [name, signature, total, words @ ..] = operands else {
+        return Err(NotDone::BadLine);
+    };
+    let mut parts = LayoutParts {
+        signature: number(signature)?,
+        total: number(total)?,
+        special: None,
+        immediates: None,
+        groups: Vec::new(alloc),
+    };
+    for part in Fronts::<Part>::over(words) {
+        match part? {
+            Part::Special(special) => parts.special = Some(special),
+            Part::Immediates(immediates) => parts.immediates = Some(immediates),
+            Part::Group(group) => parts.groups.push(group)?,
+        }
+    }
+    let name = String::from_str(alloc, name)?;
+    Ok(Line::Layout { name, parts })
+}
+
+// The strides of vertex slots.
+fn strides(words: &[&str]) -> Result<[Option<u32>; 16], NotDone> {
+    let mut strides = [None; 16];
+    for part in words.chunks(3) {
+        let ["stride", slot, bytes] = part else {
+            return Err(NotDone::BadLine);
+        };
+        let slot: usize = number(slot)?;
+        let stride = strides.get_mut(slot).ok_or(NotDone::BadLine)?;
+        *stride = Some(number(bytes)?);
+    }
+    Ok(strides)
+}
+
+pub(crate) fn render_pipeline(alloc: Global, operands: &[&str]) -> Result<Line, NotDone> {
+    let [name, handle, layout, topology, words @ ..] = operands else {
+        return Err(NotDone::BadLine);
+    };
+    let parts = RenderParts {
+        handle: number(handle)?,
+        layout: String::from_str(alloc, layout)?,
+        topology: number(topology)?,
+        strides: strides(words)?,
+    };
+    let name = String::from_str(alloc, name)?;
+    Ok(Line::RenderPipeline { name, parts })
+}
+
+pub(crate) fn compute_pipeline(alloc: Global, operands: &[&str]) -> Result<Line, NotDone> {
+    let [name, handle, layout] = operands else {
+        return Err(NotDone::BadLine);
+    };
+    let parts = ComputeParts {
+        handle: number(handle)?,
+        layout: String::from_str(alloc, layout)?,
+    };
+    let name = String::from_str(alloc, name)?;
+    Ok(Line::ComputePipeline { name, parts })
+}
+
+pub(crate) fn scratch(operands: &[&str]) -> Result<Line, NotDone> {
+    let [length, fill] = operands else {
+        return Err(NotDone::BadLine);
+    };
+    Ok(Line::Scratch {
+        length: number(length)?,
+        fill: number(fill)?,
+    })
+}

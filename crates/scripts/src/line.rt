@@ -1,0 +1,190 @@
+// What a line of a script says.
+use crate::definitions::{compute_pipeline, layout, render_pipeline, scratch};
+use crate::not_done::NotDone;
+use crate::outside::{
+    begin_compute_pass, begin_render_pass, transition_buffers, transition_textures,
+};
+use crate::within::{
+    dispatch, dispatch_indirect, draw, draw_indirect, set_bind_group, set_immediates,
+    set_scissor_rect, set_vertex_buffer, set_viewport,
+};
+use crate::words::number;
+use bindings::binding::BufferBinding;
+use bindings::rect::Rect;
+use encoder::attachment::ColorAttachment;
+use layouts::info::{GroupEntry, ImmediatesInfo, PipelineLayoutSpecialConstants};
+use resources::barrier::{BufferBarrier, TextureBarrier};
+use std::alloc::Global;
+
+// The parts of a layout.
+#[derive(Drop)]
+pub struct LayoutParts {
+    pub signature: u32,
+    pub total: u32,
+    pub special: Option<PipelineLayoutSpecialConstants>,
+    pub immediates: Option<ImmediatesInfo>,
+    pub groups: Vec<GroupEntry>,
+}
+
+// A pipeline that draws, with its layout by name.
+#[derive(Drop)]
+pub struct RenderParts {
+    pub handle: u32,
+    pub layout: String,
+    pub topology: u32,
+    pub strides: [Option<u32>; 16],
+}
+
+// A pipeline that is dispatched, with its layout by name.
+#[derive(Drop)]
+pub struct ComputeParts {
+    pub handle: u32,
+    pub layout: String,
+}
+
+// A call of the encoder, with its operands. Layouts and pipelines go by their names.
+#[derive(Drop)]
+pub enum OwnedCall {
+    BeginEncoding,
+    EndEncoding,
+    DiscardEncoding,
+    TransitionBuffers(Vec<BufferBarrier>),
+    TransitionTextures(Vec<TextureBarrier>),
+    BeginRenderPass {
+        label: Option<Vec<u8>>,
+        width: u32,
+        height: u32,
+        targets: Vec<Option<ColorAttachment>>,
+    },
+    EndRenderPass,
+    BeginComputePass {
+        label: Option<Vec<u8>>,
+    },
+    EndComputePass,
+    SetBindGroup {
+        layout: String,
+        index: u32,
+        table: u64,
+        bases: Vec<u64>,
+        offsets: Vec<u32>,
+    },
+    SetImmediates {
+        layout: String,
+        offset_bytes: u32,
+        words: Vec<u32>,
+    },
+    SetRenderPipeline(String),
+    SetComputePipeline(String),
+    SetVertexBuffer {
+        slot: u32,
+        binding: BufferBinding,
+    },
+    SetViewport([u32; 6]),
+    SetScissorRect(Rect),
+    Draw {
+        first_vertex: u32,
+        vertex_count: u32,
+        first_instance: u32,
+        instance_count: u32,
+    },
+    DrawIndirect {
+        buffer: u32,
+        offset: u64,
+        count: u32,
+    },
+    DispatchWorkgroups([u32; 3]),
+    DispatchWorkgroupsIndirect {
+        buffer: u32,
+        offset: u64,
+    },
+}
+
+// What a line says: nothing, a definition, what the next encoding is made with, or a call.
+#[derive(Drop)]
+pub enum Line {
+    Nothing,
+    Layout { name: String, parts: LayoutParts },
+    RenderPipeline { name: String, parts: RenderParts },
+    ComputePipeline { name: String, parts: ComputeParts },
+    NullTarget(u64),
+    ListBytes(usize),
+    Scratch { length: usize, fill: usize },
+    Call(OwnedCall),
+}
+
+// A call with no operands.
+fn alone(operands: &[&str], call: OwnedCall) -> Result<OwnedCall, NotDone> {
+    if operands.is_empty() {
+        Ok(call)
+    } else {
+        Err(NotDone::BadLine)
+    }
+}
+
+// The one operand of a line.
+fn only<'a>(operands: &[&'a str]) -> Result<&'a str, NotDone> {
+    match operands {
+        [word] => Ok(word),
+        _ => Err(NotDone::BadLine),
+    }
+}
+
+fn read_call(alloc: Global, verb: &str, operands: &[&str]) -> Result<OwnedCall, NotDone> {
+    match verb {
+        "begin_encoding" => alone(operands, OwnedCall::BeginEncoding),
+        "end_encoding" => alone(operands, OwnedCall::EndEncoding),
+        "discard_encoding" => alone(operands, OwnedCall::DiscardEncoding),
+        "transition_buffers" => transition_buffers(alloc, operands),
+        "transition_textures" => transition_textures(alloc, operands),
+        "begin_render_pass" => begin_render_pass(alloc, operands),
+        "end_render_pass" => alone(operands, OwnedCall::EndRenderPass),
+        "begin_compute_pass" => begin_compute_pass(alloc, only(operands)?),
+        "end_compute_pass" => alone(operands, OwnedCall::EndComputePass),
+        "set_bind_group" => set_bind_group(alloc, operands),
+        "set_immediates" => set_immediates(alloc, operands),
+        "set_render_pipeline" => {
+            let name = String::from_str(alloc, only(operands)?)?;
+            Ok(OwnedCall::SetRenderPipeline(name))
+        }
+        "set_compute_pipeline" => {
+            let name = String::from_str(alloc, only(operands)?)?;
+            Ok(OwnedCall::SetComputePipeline(name))
+        }
+        "set_vertex_buffer" => set_vertex_buffer(operands),
+        "set_viewport" => set_viewport(operands),
+        "set_scissor_rect" => set_scissor_rect(operands),
+        "draw" => draw(operands),
+        "draw_indirect" => draw_indirect(operands),
+        "dispatch_workgroups" => dispatch(operands),
+        "dispatch_workgroups_indirect" => dispatch_indirect(operands),
+        _ => Err(NotDone::BadLine),
+    }
+}
+
+fn read_words(alloc: Global, verb: &str, operands: &[&str]) -> Result<Line, NotDone> {
+    match verb {
+        "layout" => layout(alloc, operands),
+        "render_pipeline" => render_pipeline(alloc, operands),
+        "compute_pipeline" => compute_pipeline(alloc, operands),
+        "null_target" => Ok(Line::NullTarget(number(only(operands)?)?)),
+        "list_bytes" => Ok(Line::ListBytes(number(only(operands)?)?)),
+        "scratch" => scratch(operands),
+        _ => Ok(Line::Call(read_call(alloc, verb, operands)?)),
+    }
+}
+
+// A line without its comment and the blanks round it.
+pub fn bare(text: &str) -> &str {
+    text.split_once('#')
+        .map_or(text, |(before, _)| before)
+        .trim()
+}
+
+// What a line says.
+pub fn read(alloc: Global, text: &str) -> Result<Line, NotDone> {
+    let words: Vec<&str> = bare(text).split_whitespace().collect(alloc)?;
+    match words.as_slice() {
+        [] => Ok(Line::Nothing),
+        [verb, operands @ ..] => read_words(alloc, verb, operands),
+    }
+}

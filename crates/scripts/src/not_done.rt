@@ -1,0 +1,72 @@
+// Why a line of a script is not done.
+ghost use Rattle.std.specs.Prelude.{◌≡◌, alloc_error};
+ghost use Rattle.scripts.specs.declared.not_done.NotDone.TheVariants.{Refused, Memory};
+
+use command_list::fault::Fault;
+use hex::FromHexError;
+use std::alloc::{AllocError, AllocFailed};
+use std::error::Error;
+use std::fmt;
+
+#[derive(Debug, Drop)]
+pub enum NotDone {
+    BadLine,
+    // A name that no line before defined.
+    Unknown(String),
+    // A call that the encoder does not offer where it stands.
+    NotOffered,
+    Refused(Fault),
+    Memory(AllocError),
+}
+
+// What is printed below the line.
+impl fmt::Display for NotDone {
+    fn fmt<W: fmt::Write>(&self, f: &mut fmt::Formatter<W>) -> fmt::Result {
+        match self {
+            NotDone::BadLine => f.write_str("bad line"),
+            NotDone::Unknown(name) => write!(f, "unknown {name}"),
+            NotDone::NotOffered => f.write_str("not offered"),
+            NotDone::Refused(Fault { number, place }) => {
+                let number = u8::from(*number);
+                write!(f, "refused {number} {place}")
+            }
+            NotDone::Memory(error) => write!(f, "{error}"),
+        }
+    }
+}
+
+impl Error for NotDone {}
+
+impl From<Fault> for NotDone {
+    ghost from_gives = { λ fault r. r ≡ Refused fault };
+
+    fn from(fault: Fault) -> NotDone {
+        NotDone::Refused(fault)
+    }
+}
+
+impl From<AllocError> for NotDone {
+    ghost from_gives = { λ error r. r ≡ Memory error };
+
+    fn from(error: AllocError) -> NotDone {
+        NotDone::Memory(error)
+    }
+}
+
+impl<T: Drop> From<AllocFailed<T>> for NotDone {
+    ghost from_gives = { λ _ r. r ≡ Memory alloc_error };
+
+    fn from(failed: AllocFailed<T>) -> NotDone {
+        NotDone::Memory(AllocError::from(failed))
+    }
+}
+
+// Bytes in hex: what is no hex makes a bad line.
+impl From<FromHexError> for NotDone {
+    fn from(error: FromHexError) -> NotDone {
+        match error {
+            FromHexError::OutOfMemory => NotDone::Memory(AllocError),
+            _ => NotDone::BadLine,
+        }
+    }
+}

@@ -1,0 +1,208 @@
+// What is printed: a record of a list, and the record of a pass.
+use command_list::command::{Barrier, Fixed, Half};
+use command_list::record::Record;
+use list_writer::writer::Recordable;
+use passes::element::RootElement;
+use passes::roots::RootState;
+use passes::state::PassState;
+use passes::vertices::VertexBufferView;
+use std::fmt;
+
+// A record: its code and its operands, in the order of docs/LIST_FORMAT.md, decimal.
+#[derive(Clone, Copy)]
+pub struct ShownRecord<'a>(pub Record<'a>);
+
+impl fmt::Display for ShownRecord<'_> {
+    fn fmt<W: fmt::Write>(&self, f: &mut fmt::Formatter<W>) -> fmt::Result {
+        let ShownRecord(record) = *self;
+        let code = u8::from(record.code());
+        write!(f, "{code}")?;
+        match record {
+            Record::BeginEvent(units) => {
+                for unit in (0..units.len()).filter_map(|i| units.get(i)) {
+                    write!(f, " {unit}")?;
+                }
+            }
+            Record::OMSetRenderTargets(handles) => {
+                let count = handles.len();
+                write!(f, " {count}")?;
+                for handle in (0..count).filter_map(|i| handles.get(i)) {
+                    write!(f, " {handle}")?;
+                }
+            }
+            Record::ResourceBarrier(entries) => {
+                for entry in (0..entries.len()).filter_map(|i| entries.get(i)) {
+                    barrier_to(entry, f)?;
+                }
+            }
+            Record::Fixed(fixed) => fixed_to(fixed, f)?,
+        }
+        Ok(())
+    }
+}
+
+fn barrier_to<W: fmt::Write>(barrier: Barrier, f: &mut fmt::Formatter<W>) -> fmt::Result {
+    let Barrier {
+        kind,
+        resource,
+        subresource,
+        before,
+        after,
+    } = barrier;
+    let kind = u8::from(kind);
+    write!(f, " {kind} {resource} {subresource} {before} {after}")
+}
+
+fn numbers_to<W: fmt::Write>(numbers: &[u32], f: &mut fmt::Formatter<W>) -> fmt::Result {
+    for number in numbers {
+        write!(f, " {number}")?;
+    }
+    Ok(())
+}
+
+// An arm for each command: a table, which is longer than other functions.
+fn fixed_to<W: fmt::Write>(fixed: Fixed, f: &mut fmt::Formatter<W>) -> fmt::Result {
+    match fixed {
+        Fixed::EndEvent => Ok(()),
+        Fixed::SetDescriptorHeaps(on) => numbers_to(&[u32::from(on)], f),
+        Fixed::SetRootSignature { signature, .. } => numbers_to(&[signature], f),
+        Fixed::SetPipelineState(pipeline) => numbers_to(&[pipeline], f),
+        Fixed::IASetPrimitiveTopology(topology) => numbers_to(&[topology], f),
+        Fixed::IASetVertexBuffers {
+            slot,
+            address,
+            size,
+            stride,
+        } => write!(f, " {slot} {address} {size} {stride}"),
+        Fixed::SetRoot32BitConstant {
+            slot,
+            word,
+            value,
+            ..
+        } => write!(f, " {slot} {word} {value}"),
+        Fixed::SetRootDescriptorTable { slot, address, .. }
+        | Fixed::SetRootConstantBufferView { slot, address, .. } => {
+            write!(f, " {slot} {address}")
+        }
+        Fixed::ClearRenderTargetView { target, colour } => {
+            write!(f, " {target}")?;
+            numbers_to(&colour, f)
+        }
+        Fixed::RSSetViewports(viewport) => numbers_to(&viewport, f),
+        Fixed::RSSetScissorRects {
+            left,
+            top,
+            right,
+            bottom,
+        } => numbers_to(&[left, top, right, bottom], f),
+        Fixed::DrawInstanced {
+            vertices,
+            instances,
+            first_vertex,
+            first_instance,
+        } => numbers_to(&[vertices, instances, first_vertex, first_instance], f),
+        Fixed::Dispatch { x, y, z } => numbers_to(&[x, y, z], f),
+        Fixed::ExecuteIndirect {
+            half,
+            special,
+            count,
+            buffer,
+            offset,
+        } => {
+            let kind = match half {
+                Half::Graphics => 0,
+                Half::Compute => 2,
+            };
+            let special = special.unwrap_or(255);
+            write!(f, " {kind} {special} {count} {buffer} {offset}")
+        }
+    }
+}
+
+// The record of a pass: the current signature, or 0, the touched slots, each root slot that has an element, and each
+// vertex view that is not all zeros.
+#[derive(Clone, Copy)]
+pub struct ShownPass<'a>(pub &'a PassState);
+
+impl fmt::Display for ShownPass<'_> {
+    fn fmt<W: fmt::Write>(&self, f: &mut fmt::Formatter<W>) -> fmt::Result {
+        let ShownPass(
+            PassState {
+                roots,
+                vertices,
+                ..
+            },
+        ) = *self;
+        let signature = roots.layout.map_or(0, |layout| layout.signature());
+        let slots = roots.dirty_root_elements;
+        let views = vertices.dirty_vertex_buffers;
+        write!(f, "pass {signature} {slots:#x} {views:#x}")?;
+        for (slot, element) in roots.root_elements.iter().enumerate() {
+            element_to(roots, slot, *element, f)?;
+        }
+        for (slot, view) in vertices.vertex_buffers.iter().enumerate() {
+            view_to(slot, *view, f)?;
+        }
+        Ok(())
+    }
+}
+
+// What a root slot has, if it has something.
+fn element_to<W: fmt::Write>(
+    roots: &RootState,
+    slot: usize,
+    element: RootElement,
+    f: &mut fmt::Formatter<W>,
+) -> fmt::Result {
+    match element {
+        RootElement::Empty => Ok(()),
+        RootElement::Immediates => {
+            write!(f, " {slot}:immediates:")?;
+            immediates_to(roots, slot, f)
+        }
+        RootElement::SpecialConstants(constants) => {
+            let x = constants.first_vertex_or_x;
+            let y = constants.first_instance_or_y;
+            let z = constants.unused_or_z;
+            write!(f, " {slot}:special:{x},{y},{z}")
+        }
+        RootElement::DescriptorTable(address) => write!(f, " {slot}:table:{address}"),
+        RootElement::DynamicUniformBuffer(address) => write!(f, " {slot}:uniform:{address}"),
+    }
+}
+
+// The words that the current layout has at a slot.
+fn immediates_to<W: fmt::Write>(
+    roots: &RootState,
+    slot: usize,
+    f: &mut fmt::Formatter<W>,
+) -> fmt::Result {
+    let size = roots
+        .layout
+        .and_then(|layout| layout.immediates())
+        .filter(|info| info.root_index as usize == slot)
+        .map_or(0, |info| info.size as usize);
+    for (i, word) in roots.immediates.iter().take(size).enumerate() {
+        if i > 0 {
+            f.write_str(",")?;
+        }
+        write!(f, "{word}")?;
+    }
+    Ok(())
+}
+
+fn view_to<W: fmt::Write>(
+    slot: usize,
+    view: VertexBufferView,
+    f: &mut fmt::Formatter<W>,
+) -> fmt::Result {
+    let VertexBufferView {
+        address,
+        size,
+        stride,
+    } = view;
+    if (address, size, stride) == (0, 0, 0) {
+        return Ok(());
+    }
+    write!(f, " v{slot}:{address}:{size}:{stride}")
+}
