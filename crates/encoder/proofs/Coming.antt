@@ -5,7 +5,7 @@ use Rattle.command_list.specs.declared.command.Half.{Half}
 use Rattle.command_list.specs.declared.fault.Fault.{Fault}
 use Rattle.command_list.specs.Commands.{Command, SetRoot32BitConstant}
 use Rattle.device.specs.Meaning.{Meaning, Recorded, sizes}
-use Rattle.passes.specs.Flush.{word_commands}
+use Rattle.device.specs.Writes.{word_commands}
 use Rattle.encoder.specs.Putting.{Put}
 use Rattle.device.proofs.Runs.{sizes_append, recorded_none, recorded_then}
 

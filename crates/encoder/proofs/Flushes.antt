@@ -9,7 +9,8 @@ use Rattle.device.proofs.Runs.{sizes_append, recorded_then}
 use Rattle.layouts.specs.Bits.{bit}
 use Rattle.layouts.proofs.Masks.{bit_high}
 use Rattle.passes.specs.Account.{Bound, Views}
-use Rattle.passes.specs.Flush.{gathered, vertex_commands, root_commands, flushed}
+use Rattle.device.specs.Writes.{gathered}
+use Rattle.passes.specs.Flush.{vertex_commands, root_commands, flushed}
 use Rattle.encoder.proofs.Turns.{gathered_fewer}
 
 -- the slots of a mask of w bits are below w

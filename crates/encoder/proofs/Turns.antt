@@ -8,7 +8,7 @@ use Rattle.device.specs.Meaning.{sizes}
 use Rattle.device.proofs.Runs.{sizes_append}
 use Rattle.layouts.specs.Bits.{bit}
 use Rattle.layouts.proofs.Masks.{trailing_lowest, out_here, out_other, out_less, bit_none}
-use Rattle.passes.specs.Flush.{gathered}
+use Rattle.device.specs.Writes.{gathered}
 
 pub gathered_same : (t u : ℕ → Bool) (f : ℕ → List Command) (k n : ℕ) → ((j : ℕ) → k ≤ j → t j ≡ u j) → gathered t f k n ≡ gathered u f k n
 unfolding gathered

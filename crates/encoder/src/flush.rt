@@ -3,7 +3,8 @@ ghost use Rattle.std.specs.Prelude.{◌≡◌, ℕ, ◌*◌, ◌+◌, ◌<◌, �
 ghost use Rattle.command_list.specs.Commands.{Command, size, readable};
 ghost use Rattle.device.specs.Meaning.{sizes};
 ghost use Rattle.layouts.specs.Bits.{bit};
-ghost use Rattle.passes.specs.Flush.{gathered, word_commands, vertex_commands, root_commands, flushed};
+ghost use Rattle.device.specs.Writes.{gathered, word_commands};
+ghost use Rattle.passes.specs.Flush.{vertex_commands, root_commands, flushed};
 ghost use Rattle.passes.specs.State.{bound_of, views_of, account};
 ghost use Rattle.encoder.specs.Putting.{Put, constant_count};
 

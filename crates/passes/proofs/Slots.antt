@@ -1,5 +1,5 @@
 -- Arrays and masks as functions of a slot.
-use Rattle.std.proofs.Common.{◌≡◌, ℕ, zero, suc, ◌∷◌, take, drop, refl, ◌*◌, ◌%◌, ◌^◌, ◌<◌, true, false, ◌+◌, ◌≤◌, List, length, get_or, set, replicate, bit_or, cond, sym, ap, ◌∙◌, ⊎_elim, arith}
+use Rattle.std.proofs.Common.{◌≡◌, ℕ, zero, suc, ◌∷◌, take, drop, refl, ◌*◌, ◌%◌, ◌^◌, ◌<◌, true, false, ◌+◌, ◌≤◌, List, length, get_or, bit_or, cond, sym, ap, ◌∙◌, ⊎_elim, arith}
 use Rattle.std.proofs.lemmas.Bool.{cases_eq, eq-eqb, ne_eqb}
 use borrow.Rule.Slice.PartMut.{put_mid}
 use Rattle.std.proofs.lemmas.Nat.{one_shl}
@@ -10,12 +10,6 @@ use Rattle.layouts.proofs.Masks.{in_at, bit_none}
 use Rattle.device.specs.Devices.{update}
 use Rattle.passes.specs.Account.{overwritten}
 use Rattle.passes.specs.Flush.{firsts}
-
-pub read_set : {X Y : Type 0} (g : X → Y) (l : List X) (i : ℕ) (x d : X) → i < length l → (λ q. g (get_or (set l i x) q d)) ≡ update (λ q. g (get_or l q d)) i (g x)
-read_set g l i x d h = grind (arith, common_steps)
-
-pub read_replicate : {X : Type 0} (n : ℕ) (x d : X) → x ≡ d → (q : ℕ) → get_or (replicate n x) q d ≡ d
-read_replicate n x d e q = grind (arith, common_steps)
 
 -- a mask of w slots with one slot more
 pub mask_with : (w m i : ℕ) → i < w → bit (bit_or m (1 * 2 ^ i % 2 ^ w)) ≡ update (bit m) i true

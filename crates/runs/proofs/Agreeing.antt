@@ -1,6 +1,6 @@
 -- What is bound at the root slots and what the device holds agree, whatever set calls are accepted.
 use Rattle.std.proofs.Common.{◌≡◌, ℕ, ◌+◌, ◌<◌, ◌≤◌, Bool, true, false, cond, List, [], ◌∷◌, length, Some, None, Option, sym, refl, ap, ◌∙◌, subst, ⊎_elim, arith}
-use Rattle.std.proofs.lemmas.Bool.{true≢false, false≢true, ltb-true, lt-ltb, cases_eq, cases_lt, cond_both}
+use Rattle.std.proofs.lemmas.Bool.{true≢false, false≢true, ltb-true, lt-ltb, cases_eq, cond_both}
 use Rattle.std.proofs.lemmas.List.{length-map}
 use Rattle.std.proofs.lemmas.Option.{none-some, same_Some}
 use Rattle.command_list.specs.declared.command.Half.{Half}
@@ -10,7 +10,6 @@ use Rattle.layouts.specs.declared.info.BindGroupInfo.{BindGroupInfo}
 use Rattle.layouts.specs.declared.info.ImmediatesInfo.{ImmediatesInfo}
 use Rattle.layouts.specs.declared.info.Owner.TheVariants.{Table, Uniform, Immediates as ImmediatesOwner}
 use Rattle.layouts.specs.declared.layout.PipelineLayout.{PipelineLayout}
-use Rattle.layouts.specs.Owners.{first_uniform}
 use Rattle.layouts.specs.Layouts.{owner_in, group_in, Owns}
 use Rattle.layouts.proofs.Wholeness.{whole}
 use Rattle.passes.specs.declared.element.RootElement.{RootElement}
@@ -19,7 +18,7 @@ use Rattle.passes.specs.Account.{Bound, Pipeline, opened, filled, filled_from, s
 use Rattle.passes.specs.Calls.{grouped, supplied, asks_layout}
 use Rattle.passes.specs.Flush.{element_value, value_at, Holds}
 use Rattle.passes.proofs.Questions.{current_layout}
-use Rattle.passes.proofs.Fitting.{owner_special, owner_immediates, not_special, is_special_element, may_be_special, special_may, value_by, value_else}
+use Rattle.passes.proofs.Fitting.{owner_special, owner_immediates, not_special, group_owned, is_special_element, may_be_special, special_may, value_by, value_else}
 
 -- a slot of the layout l that is not touched: the pipeline is of the layout's signature, and the device holds the slot's value, which fits its owner
 pub record Held (h : Half) (p : Option Pipeline) (b : Bound) (d : Device) (l : PipelineLayout) (k : ℕ) : Type 0 where
@@ -152,18 +151,9 @@ pub group_slots : (l : PipelineLayout) (i : ℕ) (g : BindGroupInfo) (t : ℕ) (
 group_slots l i g t xs is n j low high =
     let len = elements_length g.table t xs in
     ⊎_elim
-    (λ (below : j < first_uniform g).
-    let here = at_base g.table refl below in
-    let o : Owns l Table j = subst (λ k. Owns l Table k) (sym here.1) ((whole l).table i g is here.0) in
-    (o.0, not_special l Table j (λ e. let z : ◌≡◌ {A = ℕ} 0 1 = cc in omega arith) o.1))
-    (λ above.
-    let o : Owns l Uniform j = (whole l).uniforms i g is j above (omega arith) in
-    (o.0, not_special l Uniform j (λ e. let z : ◌≡◌ {A = ℕ} 0 1 = cc in omega arith) o.1))
-    (cases_lt j (first_uniform g))
-  where
-    at_base : (b : Bool) → g.table ≡ b → j < g.base_root_index + cond g.table 1 0 → (g.table ≡ true) × (j ≡ g.base_root_index)
-    at_base true e h = let one : ◌≡◌ {A = ℕ} (cond g.table 1 0) 1 = ap (λ b. cond {A = ℕ} b 1 0) e in (e, omega arith)
-    at_base false e h = let one : ◌≡◌ {A = ℕ} (cond g.table 1 0) 0 = ap (λ b. cond {A = ℕ} b 1 0) e in absurd (omega arith)
+    (λ (o : Owns l Table j). (o.0, not_special l Table j (λ e. let z : ◌≡◌ {A = ℕ} 0 1 = cc in omega arith) o.1))
+    (λ (o : Owns l Uniform j). (o.0, not_special l Uniform j (λ e. let z : ◌≡◌ {A = ℕ} 0 1 = cc in omega arith) o.1))
+    (group_owned l i g is j low (omega arith))
 
 filled_layout : (es : List RootElement) (k : ℕ) (b : Bound) → (filled_from k es b).layout ≡ b.layout
 filled_layout [] k b = refl

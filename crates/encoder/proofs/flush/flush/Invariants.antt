@@ -1,6 +1,6 @@
 use Rattle.std.proofs.Common.{◌≡◌, ℕ, ◌^◌, ◌<◌, true}
 use Rattle.layouts.specs.Bits.{bit}
-use Rattle.passes.specs.Flush.{gathered}
+use Rattle.device.specs.Writes.{gathered}
 use Rattle.encoder.proofs.Coming.{Coming}
 use Rattle.encoder.proofs.flush.flush.Given as goal
 

@@ -1,5 +1,5 @@
 use Rattle.std.proofs.Common.{drop}
-use Rattle.passes.specs.Flush.{word_commands}
+use Rattle.device.specs.Writes.{word_commands}
 use Rattle.encoder.proofs.Coming.{Coming}
 use Rattle.encoder.proofs.flush.put_words.Given as goal
 

@@ -1,7 +1,8 @@
 use Rattle.std.proofs.Common.{arith}
 use Rattle.passes.specs.declared.element.RootElement.TheVariants.{Empty}
 use Rattle.passes.specs.State.{bound_of}
-use Rattle.passes.proofs.Slots.{read_set, mask_with}
+use Rattle.device.proofs.Arrays.{read_set}
+use Rattle.passes.proofs.Slots.{mask_with}
 use Rattle.passes.proofs.roots.RootState.fill.Goals as goal
 
 pub returns : goal.returns

@@ -1,7 +1,8 @@
 use Rattle.std.proofs.Common.{refl}
 use Rattle.passes.specs.declared.element.RootElement.TheVariants.{Empty}
 use Rattle.passes.specs.Account.{nothing_bound}
-use Rattle.passes.proofs.Slots.{read_replicate, mask_none}
+use Rattle.device.proofs.Arrays.{read_replicate}
+use Rattle.passes.proofs.Slots.{mask_none}
 use Rattle.passes.proofs.roots.RootState.new.Goals as goal
 
 pub returns : goal.returns

@@ -1,6 +1,7 @@
 use Rattle.std.proofs.Common.{refl}
 use Rattle.passes.specs.State.{view_of, no_buffer}
-use Rattle.passes.proofs.Slots.{read_replicate, mask_none}
+use Rattle.device.proofs.Arrays.{read_replicate}
+use Rattle.passes.proofs.Slots.{mask_none}
 use Rattle.passes.proofs.vertices.VertexState.new.Goals as goal
 
 pub returns : goal.returns

@@ -1,6 +1,7 @@
 use Rattle.std.proofs.Common.{slice_index_or, arith}
 use Rattle.passes.specs.State.{view_of, no_buffer}
-use Rattle.passes.proofs.Slots.{read_set, mask_with}
+use Rattle.device.proofs.Arrays.{read_set}
+use Rattle.passes.proofs.Slots.{mask_with}
 use Rattle.passes.proofs.vertices.VertexState.rebase.Goals as goal
 
 pub returns : goal.returns

@@ -2,7 +2,8 @@ use Rattle.std.proofs.Common.{not, sym, ap, ◌∙◌, slice_index_or, arith}
 use Rattle.std.proofs.lemmas.Bool.{ne_eqb}
 use Rattle.passes.specs.Account.{strided, only_at}
 use Rattle.passes.specs.State.{view_of, views_of, no_buffer}
-use Rattle.passes.proofs.Slots.{read_set, mask_with}
+use Rattle.device.proofs.Arrays.{read_set}
+use Rattle.passes.proofs.Slots.{mask_with}
 use Rattle.passes.proofs.Strides.{strided_one}
 use Rattle.passes.proofs.vertices.VertexState.restride.Goals as goal
 
