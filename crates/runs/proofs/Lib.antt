@@ -11,3 +11,4 @@ pub mod Law
 pub mod Excluding
 pub mod Away
 pub mod Driving
+pub mod Working

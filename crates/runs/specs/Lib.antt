@@ -2,3 +2,4 @@ pub mod Marks
 pub mod Excluded
 pub mod Offering
 pub mod Driven
+pub mod Worked

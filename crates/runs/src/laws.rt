@@ -1,6 +1,7 @@
-// What every run keeps, and which encoders are excluded, as statements that the check asks for.
+// What every run keeps, which encoders are excluded, and what worked plots come to, as statements that the check asks for.
 ghost use Rattle.runs.specs.Marks.{EveryRunKeeps};
 ghost use Rattle.runs.specs.Excluded.{BadEncodersAreExcluded};
+ghost use Rattle.runs.specs.Worked.{WorkedPlots};
 
 // Whatever calls are made of an encoder, in whatever order and over whatever recorder: each draw
 // finds on the device what the accepted calls say, and slots were written exactly where touched.
@@ -12,4 +13,9 @@ pub fn every_run_keeps()
 // slot unwritten, or writes one that is not touched.
 pub fn bad_encoders_are_excluded()
     ensures { BadEncodersAreExcluded }
+{}
+
+// Worked plots: what calls of an encoder come to, call by call.
+pub fn worked_plots()
+    ensures { WorkedPlots }
 {}
