@@ -10,6 +10,8 @@ mod laws;
 #[cfg(test)]
 mod laying;
 #[cfg(test)]
+mod plots;
+#[cfg(test)]
 mod table;
 #[cfg(test)]
 mod usages;
