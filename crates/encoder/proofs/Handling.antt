@@ -147,12 +147,12 @@ prepared_layout o b = cond_both (by_own o (own_slot b.layout)) b _ (λ x. x.layo
 
 after_marked : (c : DrawCall) (a : Account) → marked (own_constants c) (with_roots (prepared c a.roots) a) ≡ after_draw c a
 after_marked c a = ap (λ l. record {
-    half = a.half;
-    labelled = a.labelled;
-    pipeline = a.pipeline;
-    roots = untouched (emptied (wiped_slot (own_constants c) l) (prepared c a.roots));
-    vertices = views_untouched a.vertices;
-  }) (prepared_layout (own_constants c) a.roots)
+  half = a.half;
+  labelled = a.labelled;
+  pipeline = a.pipeline;
+  roots = untouched (emptied (wiped_slot (own_constants c) l) (prepared c a.roots));
+  vertices = views_untouched a.vertices;
+}) (prepared_layout (own_constants c) a.roots)
 
 -- a draw of a pass that has it
 module _ (c : DrawCall) (a b : Account) (null : ℕ) (m n : Meaning) (r : Result Unit Fault) (own : Option Constants) (cmd : Command)

@@ -2,6 +2,8 @@
 #![tactic(auto)]
 
 #[cfg(test)]
+mod differences;
+#[cfg(test)]
 mod edges;
 #[cfg(test)]
 mod labelling;

@@ -45,7 +45,7 @@ fn layout(own_signature: bool) -> Result<PipelineLayout, Fault> {
 }
 
 // Pipeline 9 of a layout, with stride 16 at vertex slot 0.
-fn pipeline(layout: PipelineLayout) -> RenderPipeline {
+pub(crate) fn pipeline(layout: PipelineLayout) -> RenderPipeline {
     let mut vertex_strides = [None; 16];
     vertex_strides[0] = Some(16);
     RenderPipeline {
@@ -145,7 +145,7 @@ fn recorder_of<R: Recorder>(phase: Phase<R>) -> R {
 }
 
 // Calls driven over a recorder, with a scratch whose first entry is the host's: the recorder, and the answers.
-fn driven<R: Recorder>(recorder: R, calls: &[Call<'_>]) -> (R, [Answer; MOST_CALLS]) {
+pub(crate) fn driven<R: Recorder>(recorder: R, calls: &[Call<'_>]) -> (R, [Answer; MOST_CALLS]) {
     let mut entries = [Barrier {
         kind: BarrierType::Uav,
         resource: 0,
@@ -172,7 +172,7 @@ fn given<R: Recorder + Drop>(recorder: R, commands: &[Command<'_>]) -> Result<R,
 }
 
 // Whether calls over list bytes make the same list as commands that are recorded one by one.
-fn agree(calls: &[Call<'_>], commands: &[Command<'_>]) -> Result<bool, Fault> {
+pub(crate) fn agree(calls: &[Call<'_>], commands: &[Command<'_>]) -> Result<bool, Fault> {
     let mut made = [0u8; 1024];
     let (list, _) = driven(ListBytes::new(&mut made), calls);
     let mut wanted = [0u8; 1024];
@@ -199,7 +199,7 @@ fn draw(first_vertex: u32) -> Command<'static> {
 }
 
 // The opening's commands, the pipeline's, and those of the first draw but for its constants and itself.
-const FIRST: [Command<'static>; 10] = [
+pub(crate) const FIRST: [Command<'static>; 10] = [
     Command::Fixed(Fixed::SetDescriptorHeaps(true)),
     Command::OMSetRenderTargets(&[1]),
     Command::Fixed(Fixed::RSSetViewports([0, 0, ONE, ONE, 0, ONE])),

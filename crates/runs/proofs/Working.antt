@@ -1,9 +1,7 @@
 -- The worked plots come true: each by computing, for layouts whose parts are written out.
-use Rattle.std.proofs.Common.{◌≡◌, ℕ, ◌≤◌, ◌-◌, Bool, true, false, cond, ◌&&◌, eqb, leb, List, [], ◌∷◌, Some, None, Option, sym, refl, ap, ◌∙◌, subst, ◌++◌, inl, negsuc, arith}
-use Rattle.std.proofs.lemmas.Bool.{true≢false, false≢true, leb-true, cond_both}
-use Rattle.command_list.specs.declared.fault.Fault.{Fault}
-use Rattle.device.specs.Meaning.{Meaning, Recorded, sizes}
-use Rattle.layouts.specs.Bits.{bit}
+use Rattle.std.proofs.Common.{◌≡◌, ℕ, Bool, true, false, cond, ◌&&◌, eqb, leb, List, [], ◌∷◌, Some, None, Option, sym, refl, ap, ◌∙◌, subst, ◌++◌, inl, negsuc, arith}
+use Rattle.std.proofs.lemmas.Bool.{true≢false, false≢true}
+use Rattle.device.specs.Meaning.{sizes}
 use Rattle.std.specs.Option.{option_eq}
 use Rattle.std.specs.Cmp.Lexicographic.{pointwise}
 use Rattle.layouts.specs.Equal.{same_special, same_immediates, same_group}
@@ -23,8 +21,7 @@ use Rattle.layouts.specs.declared.info.PipelineLayoutSpecialConstants.{PipelineL
 use Rattle.passes.specs.declared.element.RootElement.TheVariants.{SpecialConstants}
 use Rattle.passes.specs.Account.{unfit}
 use Rattle.device.specs.Writes.{gathered}
-use Rattle.bindings.specs.Extents.{single}
-use Rattle.encoder.specs.Scenes.{Call, Scene, Answer, taken, refused, not_offered, is_taken, account_of, offers, asks, records, next, start_of, judged, verdict, Does}
+use Rattle.encoder.specs.Scenes.{Call, Scene, is_taken, account_of, records, next, start_of, judged, verdict, Does}
 use Rattle.encoder.specs.Phases.{scene}
 use Rattle.runs.specs.Worked.{come_to, curves, labelled, spent, behind, behind_all, outcomes, plots, Come_true, empty, IsPlotted, WorkedPlots}
 

@@ -1,6 +1,6 @@
 -- Worked plots: calls of an encoder, and what they come to by the definitions that the calls' contracts cite.
-use Rattle.std.specs.Prelude.{◌≡◌, ℕ, ◌-◌, Bool, true, false, cond, List, [], ◌∷◌, Some, None, Option, negsuc}
-use Rattle.command_list.specs.declared.command.Half.TheVariants.{Graphics, Compute}
+use Rattle.std.specs.Prelude.{◌≡◌, ℕ, ◌-◌, Bool, true, false, cond, List, [], ◌∷◌, Some, None, negsuc}
+use Rattle.command_list.specs.declared.command.Half.TheVariants.{Graphics}
 use Rattle.command_list.specs.declared.fault.Number.{Number}
 use Rattle.command_list.specs.declared.fault.Number.TheVariants as number
 use Rattle.command_list.specs.Commands.{Command, BeginEvent, SetDescriptorHeaps, SetRootSignature, SetPipelineState, IASetPrimitiveTopology, IASetVertexBuffers, SetRoot32BitConstant, SetRootDescriptorTable, SetRootConstantBufferView, ResourceBarrier, DrawInstanced, ExecuteIndirect, record_of}
