@@ -6,13 +6,14 @@ mod failure;
 mod meant;
 mod named;
 mod options;
+mod phases;
 mod script;
 mod show;
 mod shown;
 mod timing;
 
 use board::board::Board;
-use command_list::command::{Barrier, BarrierType, Half};
+use command_list::command::Half;
 use command_list::fault::Fault;
 use command_list::record::Record;
 use device::ration::Ration;
@@ -29,7 +30,7 @@ use options::{Options, read_options};
 use resources::batch::transition;
 use resources::scratch::{Mark, Scratch};
 use resources::uses::{BufferUses, TextureUses};
-use script::Session;
+use script::{FREE, Session};
 use show::Operands;
 use shown::{print_play, same};
 use std::process::ExitCode;
@@ -76,15 +77,6 @@ fn print_record(rt: &impl Print, at: usize, record: Record) -> Result<(), Failur
 fn print_list(rt: &(impl Print + AllocGlobal), file: Named) -> Result<(), Failure> {
     file.each_record(rt.alloc(), |at, record| print_record(rt, at, record))
 }
-
-// An entry of a scratch that no barrier was put in.
-const FREE: Barrier = Barrier {
-    kind: BarrierType::Uav,
-    resource: 0,
-    subresource: 0,
-    before: 0,
-    after: 0,
-};
 
 // Gives the plot to a recorder: the upload as a transition, which records the first command, and the others as they are.
 fn record_plot<R: Recorder>(recorder: &mut R) -> Result<(), Fault> {

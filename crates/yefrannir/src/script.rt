@@ -4,6 +4,7 @@ ghost use Rattle.std.specs.Prelude.{◌≤◌, length, IfOk};
 use crate::failure::Failure;
 use crate::meant::{Found, meant};
 use crate::named::Named;
+use crate::phases::{Readable, into_recorder, outcome, written};
 use command_list::command::{Barrier, BarrierType, Half};
 use command_list::reader::MOST_BYTES;
 use device::recorder::Recorder;
@@ -11,7 +12,6 @@ use encoder::phase::Idle;
 use list_bytes::ListBytes;
 use passes::state::PassState;
 use resources::scratch::{Mark, Scratch};
-use runs::call::Answer;
 use runs::phase::{Phase, offer};
 use scripts::line::{Line, OwnedCall, bare, read};
 use scripts::names::Names;
@@ -19,11 +19,11 @@ use scripts::not_done::NotDone;
 use scripts::shown::{ShownPass, ShownRecord};
 use std::alloc::Global;
 
-// The length of a scratch at the start.
+// How many entries a scratch has at the start.
 const SCRATCH_LENGTH: usize = 2048;
 
 // An entry of a scratch that no barrier was put in.
-const FREE: Barrier = Barrier {
+pub(crate) const FREE: Barrier = Barrier {
     kind: BarrierType::Uav,
     resource: 0,
     subresource: 0,
@@ -45,47 +45,6 @@ pub(crate) struct Session {
     fill: usize,
     with_pass: bool,
     told: String,
-}
-
-// A recorder whose list can be read.
-trait Readable {
-    fn written(&self) -> &[u8];
-}
-
-impl Readable for ListBytes<'_> {
-    fn written(&self) -> &[u8] {
-        self.list()
-    }
-}
-
-// The list that an encoder has.
-fn written<R: Readable>(phase: &Phase<R>) -> &[u8] {
-    match phase {
-        Phase::Idle(idle) => idle.recorder().written(),
-        Phase::Recording(list) => list.recorder().written(),
-        Phase::Render(pass) => pass.recorder().written(),
-        Phase::Compute(pass) => pass.recorder().written(),
-    }
-}
-
-// The recorder of an encoder that is done with, whether its list was ended or not.
-fn into_recorder<R: Recorder>(phase: Phase<R>) -> R {
-    let idle = match phase {
-        Phase::Idle(idle) => idle,
-        Phase::Recording(list) => list.discard_encoding(),
-        Phase::Render(pass) => pass.discard_encoding(),
-        Phase::Compute(pass) => pass.discard_encoding(),
-    };
-    idle.into_recorder()
-}
-
-// What an answer says of a line.
-fn outcome(answer: Answer) -> Result<(), NotDone> {
-    match answer {
-        Answer::Taken => Ok(()),
-        Answer::Refused(fault) => Err(NotDone::Refused(fault)),
-        Answer::NotOffered => Err(NotDone::NotOffered),
-    }
 }
 
 impl Session {
