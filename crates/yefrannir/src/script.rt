@@ -19,8 +19,8 @@ use scripts::not_done::NotDone;
 use scripts::shown::{ShownPass, ShownRecord};
 use std::alloc::Global;
 
-// How many entries a scratch has at the start.
-const SCRATCH_LENGTH: usize = 2048;
+// How many entries a scratch has at the start, which are the most that calls take.
+const MOST_ENTRIES: usize = 2048;
 
 // An entry of a scratch that no barrier was put in.
 pub(crate) const FREE: Barrier = Barrier {
@@ -54,7 +54,7 @@ impl Session {
             names: Names::new(alloc),
             null_target: 0,
             space,
-            entries: vec![in alloc; FREE; SCRATCH_LENGTH]?,
+            entries: vec![in alloc; FREE; MOST_ENTRIES]?,
             fill: 0,
             with_pass,
             told: String::new(alloc),
@@ -84,7 +84,8 @@ impl Session {
                 Ok(())
             }
             Line::Scratch { length, fill } => {
-                self.entries = vec![in self.alloc; FREE; length]?;
+                // Of too many entries no call takes any, so one too many will do.
+                self.entries = vec![in self.alloc; FREE; length.min(MOST_ENTRIES + 1)]?;
                 self.fill = fill;
                 Ok(())
             }
@@ -225,7 +226,7 @@ impl Session {
         let mut list = Vec::new(self.alloc);
         let mut done = 0;
         while done < lines.len() {
-            // More bytes than a list can have are as none.
+            // Of too many bytes no list takes any, so one too many will do.
             list = vec![in self.alloc; 0; self.space.min(MOST_BYTES + 1)]?;
             let (end, behind) = self.do_bytes(
                 list.as_mut_slice(),
