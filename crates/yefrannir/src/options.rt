@@ -30,7 +30,10 @@ pub(crate) fn read_options(words: Vec<String>) -> Result<Options, Failure> {
     let mut awaited = Awaited::Nothing;
     for word in words {
         awaited = match (awaited, word.as_str()) {
-            (Awaited::List, _) => {
+            (Awaited::List, path) => {
+                if path.starts_with("--") {
+                    return Err(Failure::NoListFile);
+                }
                 list = Some(word);
                 Awaited::Nothing
             }
