@@ -8,6 +8,9 @@ pub(crate) enum Failure {
     BadArguments,
     NothingToShow,
     NothingToPlay,
+    NothingToRun,
+    NoListFile,
+    NoSpace,
     NoResource,
     NoNumber,
     NoLabel,
@@ -18,6 +21,10 @@ pub(crate) enum Failure {
     Refused(String, Fault),
     // A file that cannot be read, and why.
     Unread(String, io::Error),
+    // A script that is no text.
+    NoText(String),
+    // A file that cannot be written, and why.
+    Unwritten(String, io::Error),
     Memory(AllocError),
     Io(io::Error),
 }
@@ -30,6 +37,11 @@ impl fmt::Display for Failure {
             }
             Failure::NothingToShow => f.write_str("show what? give a list file, or --time"),
             Failure::NothingToPlay => f.write_str("play what? give a list file"),
+            Failure::NothingToRun => f.write_str("run what? give a script"),
+            Failure::NoListFile => f.write_str("write the list where? give a file behind --list"),
+            Failure::NoSpace => {
+                f.write_str("how many bytes has a list? give a whole number behind --space")
+            }
             Failure::NoResource => {
                 f.write_str("the state of what? give 'buffer' or 'texture' and a usage")
             }
@@ -42,6 +54,8 @@ impl fmt::Display for Failure {
             }
             Failure::Refused(what, fault) => write!(f, "{what} is refused: {fault}"),
             Failure::Unread(path, error) => write!(f, "cannot read {path}: {error}"),
+            Failure::NoText(path) => write!(f, "{path} is no UTF-8 text"),
+            Failure::Unwritten(path, error) => write!(f, "cannot write {path}: {error}"),
             Failure::Memory(error) => write!(f, "{error}"),
             Failure::Io(error) => write!(f, "{error}"),
         }

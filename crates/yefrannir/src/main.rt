@@ -3,13 +3,17 @@
 
 mod facts;
 mod failure;
+mod meant;
 mod named;
+mod options;
+mod phases;
+mod script;
 mod show;
 mod shown;
 mod timing;
 
 use board::board::Board;
-use command_list::command::{Barrier, BarrierType, Half};
+use command_list::command::Half;
 use command_list::fault::Fault;
 use command_list::record::Record;
 use device::ration::Ration;
@@ -22,9 +26,11 @@ use list_file::{check, records_are_known, rewrite, write};
 use list_play::board_of;
 use list_writer::writer::Recordable;
 use named::Named;
+use options::{Options, read_options};
 use resources::batch::transition;
 use resources::scratch::{Mark, Scratch};
 use resources::uses::{BufferUses, TextureUses};
+use script::{FREE, Session};
 use show::Operands;
 use shown::{print_play, same};
 use std::process::ExitCode;
@@ -39,6 +45,11 @@ const HELP: &str = "yefrannir shows Direct3D 12 command lists
   yefrannir show FILE           print the records of a list file
   yefrannir play FILE           play a list file on a board: what each draw finds on the device,
                                 and how often each command was made and each slot written
+  yefrannir run SCRIPT          run a script of calls (docs/SCRIPT.md): each line with its commands or
+                                why it is not done; options of run:
+      --pass                    after each line the record of the pass
+      --list FILE               write the last list to a file
+      --space BYTES             how many bytes a list has at the start, 65536 if it is not said
   yefrannir state buffer N      the state of a buffer whose usage is N, with its names; flags
   yefrannir state texture N     double from 1, docs/RESOURCES.md lists them
   yefrannir layout              who owns each root slot of the embedded plot's layout
@@ -66,15 +77,6 @@ fn print_record(rt: &impl Print, at: usize, record: Record) -> Result<(), Failur
 fn print_list(rt: &(impl Print + AllocGlobal), file: Named) -> Result<(), Failure> {
     file.each_record(rt.alloc(), |at, record| print_record(rt, at, record))
 }
-
-// An entry of a scratch that no barrier was put in.
-const FREE: Barrier = Barrier {
-    kind: BarrierType::Uav,
-    resource: 0,
-    subresource: 0,
-    before: 0,
-    after: 0,
-};
 
 // Gives the plot to a recorder: the upload as a transition, which records the first command, and the others as they are.
 fn record_plot<R: Recorder>(recorder: &mut R) -> Result<(), Fault> {
@@ -194,6 +196,35 @@ fn with_file<F: FnOnce(Named) -> Result<(), Failure>>(
     show(Named { name: path, list })
 }
 
+// Writes a file.
+fn write_file(rt: &(impl Files + AllocGlobal), path: &str, bytes: &[u8]) -> Result<(), Failure> {
+    match fs::write(rt, path, bytes) {
+        Ok(()) => Ok(()),
+        Err(error) => {
+            let path = String::from_str(rt.alloc(), path)?;
+            Err(Failure::Unwritten(path, error))
+        }
+    }
+}
+
+// Runs a script. What was told of its lines is printed even if it ends early.
+fn run_script(rt: &(impl Files + Print + AllocGlobal), options: &Options) -> Result<(), Failure> {
+    let path = options.script.as_str();
+    let bytes = read_file(rt, path)?;
+    let Ok(script) = str::from_utf8(bytes.as_slice()) else {
+        return Err(Failure::NoText(String::from_str(rt.alloc(), path)?));
+    };
+    let mut session = Session::new(rt.alloc(), options.space, options.with_pass)?;
+    let list = session.run(script);
+    let told = session.told();
+    print!(rt; "{told}")?;
+    let list = list?;
+    match &options.list {
+        Some(path) => write_file(rt, path.as_str(), list.as_slice()),
+        None => Ok(()),
+    }
+}
+
 // What the arguments ask for.
 #[derive(Drop)]
 enum Asked {
@@ -201,6 +232,7 @@ enum Asked {
     Help,
     Show(String),
     Play(String),
+    Run(Options),
     Buffer(BufferUses),
     Texture(TextureUses),
     Label(String),
@@ -253,6 +285,9 @@ fn read_args(rt: &HostRuntime) -> Result<Asked, Failure> {
     let Some(verb) = args.next() else {
         return Ok(Asked::Plot);
     };
+    if verb.as_str() == "run" {
+        return Ok(Asked::Run(read_options(args.collect(rt.alloc())?)?));
+    }
     let first = args.next();
     let second = args.next();
     if args.next().is_some() {
@@ -270,6 +305,7 @@ fn run(rt: &HostRuntime) -> Result<(), Failure> {
         }
         Asked::Show(path) => with_file(rt, path.as_str(), |file| print_list(rt, file)),
         Asked::Play(path) => with_file(rt, path.as_str(), |file| print_play(rt, file)),
+        Asked::Run(options) => run_script(rt, &options),
         Asked::Buffer(usage) => print_usage(rt, usage, usage.bits, &BUFFER_FLAGS),
         Asked::Texture(usage) => print_usage(rt, usage, usage.bits, &TEXTURE_FLAGS),
         Asked::Label(text) => print_label(rt, text.as_str()),

@@ -1,0 +1,47 @@
+// What is asked of an encoder in whichever phase it is: its list, its recorder, and what an answer of it says.
+use device::recorder::Recorder;
+use list_bytes::ListBytes;
+use runs::call::Answer;
+use runs::phase::Phase;
+use scripts::not_done::NotDone;
+
+// A recorder whose list can be read.
+pub(crate) trait Readable {
+    fn written(&self) -> &[u8];
+}
+
+impl Readable for ListBytes<'_> {
+    fn written(&self) -> &[u8] {
+        self.list()
+    }
+}
+
+// The list that an encoder has.
+pub(crate) fn written<R: Readable>(phase: &Phase<R>) -> &[u8] {
+    match phase {
+        Phase::Idle(idle) => idle.recorder().written(),
+        Phase::Recording(list) => list.recorder().written(),
+        Phase::Render(pass) => pass.recorder().written(),
+        Phase::Compute(pass) => pass.recorder().written(),
+    }
+}
+
+// The recorder of an encoder that is done with, whether its list was ended or not.
+pub(crate) fn into_recorder<R: Recorder>(phase: Phase<R>) -> R {
+    let idle = match phase {
+        Phase::Idle(idle) => idle,
+        Phase::Recording(list) => list.discard_encoding(),
+        Phase::Render(pass) => pass.discard_encoding(),
+        Phase::Compute(pass) => pass.discard_encoding(),
+    };
+    idle.into_recorder()
+}
+
+// What an answer says of a line.
+pub(crate) fn outcome(answer: Answer) -> Result<(), NotDone> {
+    match answer {
+        Answer::Taken => Ok(()),
+        Answer::Refused(fault) => Err(NotDone::Refused(fault)),
+        Answer::NotOffered => Err(NotDone::NotOffered),
+    }
+}

@@ -1,0 +1,241 @@
+// A script that is run: its calls are offered to an encoder over list bytes, and what becomes of each line is told.
+ghost use Rattle.std.specs.Prelude.{◌≤◌, length, IfOk};
+
+use crate::failure::Failure;
+use crate::meant::{Found, meant};
+use crate::named::Named;
+use crate::phases::{Readable, into_recorder, outcome, written};
+use command_list::command::{Barrier, BarrierType, Half};
+use command_list::reader::MOST_BYTES;
+use device::recorder::Recorder;
+use encoder::phase::Idle;
+use list_bytes::ListBytes;
+use passes::state::PassState;
+use resources::scratch::{Mark, Scratch};
+use runs::phase::{Phase, offer};
+use scripts::line::{Line, OwnedCall, bare, read};
+use scripts::names::Names;
+use scripts::not_done::NotDone;
+use scripts::shown::{ShownPass, ShownRecord};
+use std::alloc::Global;
+
+// How many entries a scratch has at the start, which are the most that calls take.
+const MOST_ENTRIES: usize = 2048;
+
+// An entry of a scratch that no barrier was put in.
+pub(crate) const FREE: Barrier = Barrier {
+    kind: BarrierType::Uav,
+    resource: 0,
+    subresource: 0,
+    before: 0,
+    after: 0,
+};
+
+// The line that begins a list.
+const BEGINS: &str = "begin_encoding";
+
+// What the lines so far have set, and what was told of them.
+#[derive(Drop)]
+pub(crate) struct Session {
+    alloc: Global,
+    names: Names,
+    null_target: u64,
+    space: usize,
+    entries: Vec<Barrier>,
+    fill: usize,
+    with_pass: bool,
+    told: String,
+}
+
+impl Session {
+    pub(crate) fn new(alloc: Global, space: usize, with_pass: bool) -> Result<Session, Failure> {
+        Ok(Session {
+            alloc,
+            names: Names::new(alloc),
+            null_target: 0,
+            space,
+            entries: vec![in alloc; FREE; MOST_ENTRIES]?,
+            fill: 0,
+            with_pass,
+            told: String::new(alloc),
+        })
+    }
+
+    // What was told of the lines.
+    pub(crate) fn told(&self) -> &str {
+        self.told.as_str()
+    }
+
+    // A line that is no call.
+    fn define(&mut self, line: Line) -> Result<(), NotDone> {
+        match line {
+            Line::Nothing | Line::Call(_) => Ok(()),
+            Line::Layout { name, parts } => self.names.define_layout(name, &parts),
+            Line::RenderPipeline { name, parts } => self.names.define_render_pipeline(name, &parts),
+            Line::ComputePipeline { name, parts } => {
+                self.names.define_compute_pipeline(name, &parts)
+            }
+            Line::NullTarget(target) => {
+                self.null_target = target;
+                Ok(())
+            }
+            Line::ListBytes(space) => {
+                self.space = space;
+                Ok(())
+            }
+            Line::Scratch { length, fill } => {
+                // Of too many entries no call takes any, so one too many will do.
+                self.entries = vec![in self.alloc; FREE; length.min(MOST_ENTRIES + 1)]?;
+                self.fill = fill;
+                Ok(())
+            }
+        }
+    }
+
+    // A call, offered to the encoder.
+    fn make<R: Recorder>(
+        &mut self,
+        phase: Phase<R>,
+        call: &OwnedCall,
+    ) -> (Phase<R>, Result<(), NotDone>) {
+        let mut found = Found::new();
+        match meant(&self.names, call, &mut found) {
+            Ok(call) => {
+                let mut scratch = Scratch {
+                    entries: self.entries.as_mut_slice(),
+                    mark: Mark { fill: self.fill },
+                };
+                let (phase, answer) = offer(phase, &mut scratch, call);
+                (phase, outcome(answer))
+            }
+            Err(error) => (phase, Err(error)),
+        }
+    }
+
+    // Tells the records that a list has behind those that it had before.
+    fn tell_records(&mut self, list: &[u8], before: usize) -> Result<(), Failure> {
+        if list.len() <= before {
+            return Ok(());
+        }
+        let told = &mut self.told;
+        let name = "the list";
+        Named { name, list }.each_record(self.alloc, |at, record| {
+            if at >= before {
+                let shown = ShownRecord(record);
+                writeln!(told, "  {shown}")?;
+            }
+            Ok(())
+        })
+    }
+
+    // Tells the record of a pass.
+    fn tell_pass(&mut self, pass: &PassState) -> Result<(), Failure> {
+        let shown = ShownPass(pass);
+        writeln!(self.told, "  {shown}")?;
+        Ok(())
+    }
+
+    // Tells what became of a line: its records, or why it was not done, and the record of the pass.
+    fn tell<R: Readable>(
+        &mut self,
+        phase: &Phase<R>,
+        before: usize,
+        done: Result<(), NotDone>,
+    ) -> Result<(), Failure> {
+        match done {
+            Ok(()) => self.tell_records(written(phase), before)?,
+            Err(NotDone::Memory(error)) => return Err(Failure::Memory(error)),
+            Err(error) => writeln!(self.told, "  {error}")?,
+        }
+        if !self.with_pass {
+            return Ok(());
+        }
+        match phase {
+            Phase::Render(pass) => self.tell_pass(pass.pass()),
+            Phase::Compute(pass) => self.tell_pass(pass.pass()),
+            Phase::Idle(_) | Phase::Recording(_) => {
+                self.tell_pass(&PassState::new(Half::Graphics, false))
+            }
+        }
+    }
+
+    // Does a line, and tells what became of it.
+    fn do_line<R: Recorder + Readable>(
+        &mut self,
+        phase: Phase<R>,
+        line: &str,
+    ) -> (Phase<R>, Result<(), Failure>) {
+        let before = written(&phase).len();
+        let (phase, done) = match read(self.alloc, line) {
+            Ok(Line::Call(call)) => self.make(phase, &call),
+            Ok(line) => (phase, self.define(line)),
+            Err(error) => (phase, Err(error)),
+        };
+        if let Err(error) = writeln!(self.told, "> {line}") {
+            return (phase, Err(Failure::Memory(error)));
+        }
+        let told = self.tell(&phase, before, done);
+        (phase, told)
+    }
+
+    // Does a line and those behind it over a new encoder, up to where the next list begins. The recorder back, and how
+    // many lines behind the first were done.
+    fn do_list<R: Recorder + Readable>(
+        &mut self,
+        recorder: R,
+        first: &str,
+        lines: &[&str],
+    ) -> (R, Result<usize, Failure>)
+        ensures { IfOk result.1 (λ n. n ≤ length lines.now) }
+    {
+        let idle = Idle::new(recorder, self.null_target);
+        let (mut phase, mut told) = self.do_line(Phase::Idle(idle), first);
+        for done in 0..lines.len() {
+            if let Err(failure) = told {
+                return (into_recorder(phase), Err(failure));
+            }
+            if matches!(&phase, Phase::Idle(_)) && lines[done] == BEGINS {
+                return (into_recorder(phase), Ok(done));
+            }
+            (phase, told) = self.do_line(phase, lines[done]);
+        }
+        (into_recorder(phase), told.map(|()| lines.len()))
+    }
+
+    // Does one list in these bytes. How long it is, and how many lines behind the first were done.
+    fn do_bytes(
+        &mut self,
+        bytes: &mut [u8],
+        first: &str,
+        lines: &[&str],
+    ) -> Result<(usize, usize), Failure>
+        ensures { IfOk result (λ r. r.1 ≤ length lines.now) }
+    {
+        let (list, done) = self.do_list(ListBytes::new(bytes), first, lines);
+        let (end, _) = list.finish();
+        Ok((end, done?))
+    }
+
+    // Does the lines of a script. The last list.
+    pub(crate) fn run(&mut self, script: &str) -> Result<Vec<u8>, Failure> {
+        let lines: Vec<&str> = script
+            .lines()
+            .map(bare)
+            .filter(|line| !line.is_empty())
+            .collect(self.alloc)?;
+        let mut list = Vec::new(self.alloc);
+        let mut done = 0;
+        while done < lines.len() {
+            // Of too many bytes no list takes any, so one too many will do.
+            list = vec![in self.alloc; 0; self.space.min(MOST_BYTES + 1)]?;
+            let (end, behind) = self.do_bytes(
+                list.as_mut_slice(),
+                lines[done],
+                &lines[done + 1..],
+            )?;
+            list.truncate(end);
+            done += 1 + behind;
+        }
+        Ok(list)
+    }
+}
