@@ -1,9 +1,9 @@
 -- What a pipeline call records, and that bound elements and the device agree behind it.
-use Rattle.std.proofs.Common.{◌≡◌, ℕ, Bool, true, false, cond, ◌&&◌, List, [], ◌∷◌, ◌++◌, Some, None, Option, sym, refl, ap, ◌∙◌, subst}
+use Rattle.std.proofs.Common.{◌≡◌, ℕ, true, ◌&&◌, List, ◌∷◌, ◌++◌, Some, None, Option, sym, refl, ap, ◌∙◌, subst}
 use Rattle.std.proofs.lemmas.Bool.{false≢true, eqb-true, and_parts, cond_both}
 use Rattle.std.proofs.lemmas.Option.{same_Some}
 use Rattle.command_list.specs.declared.command.Half.{Half}
-use Rattle.command_list.specs.Commands.{Command, SetRootSignature, SetPipelineState}
+use Rattle.command_list.specs.Commands.{Command, SetPipelineState}
 use Rattle.device.specs.Devices.{Device, play}
 use Rattle.device.proofs.Quiets.{are_quiet}
 use Rattle.device.proofs.Pipelines.{Piped, piped_by}
