@@ -1,4 +1,7 @@
 // Lines that define: layouts, pipelines, and the scratch that calls are given.
+ghost use Rattle.std.specs.Prelude.{◌≡◌, false, IfOk};
+ghost use Rattle.scripts.specs.Lines.{says_nothing};
+
 use crate::fronts::{Front, Fronts};
 use crate::line::{ComputeParts, LayoutParts, Line, RenderParts};
 use crate::not_done::NotDone;
@@ -55,7 +58,9 @@ fn is_table(word: &str) -> Result<bool, NotDone> {
     }
 }
 
-pub(crate) fn layout(alloc: Global, operands: &[&str]) -> Result<Line, NotDone> {
+pub(crate) fn layout(alloc: Global, operands: &[&str]) -> Result<Line, NotDone>
+    ensures { IfOk result (λ l. says_nothing l ≡ false) }
+{
     let [name, signature, total, words @ ..] = operands else {
         return Err(NotDone::BadLine);
     };
@@ -91,7 +96,9 @@ fn strides(words: &[&str]) -> Result<[Option<u32>; 16], NotDone> {
     Ok(strides)
 }
 
-pub(crate) fn render_pipeline(alloc: Global, operands: &[&str]) -> Result<Line, NotDone> {
+pub(crate) fn render_pipeline(alloc: Global, operands: &[&str]) -> Result<Line, NotDone>
+    ensures { IfOk result (λ l. says_nothing l ≡ false) }
+{
     let [name, handle, layout, topology, words @ ..] = operands else {
         return Err(NotDone::BadLine);
     };
@@ -105,7 +112,9 @@ pub(crate) fn render_pipeline(alloc: Global, operands: &[&str]) -> Result<Line, 
     Ok(Line::RenderPipeline { name, parts })
 }
 
-pub(crate) fn compute_pipeline(alloc: Global, operands: &[&str]) -> Result<Line, NotDone> {
+pub(crate) fn compute_pipeline(alloc: Global, operands: &[&str]) -> Result<Line, NotDone>
+    ensures { IfOk result (λ l. says_nothing l ≡ false) }
+{
     let [name, handle, layout] = operands else {
         return Err(NotDone::BadLine);
     };
@@ -117,7 +126,9 @@ pub(crate) fn compute_pipeline(alloc: Global, operands: &[&str]) -> Result<Line,
     Ok(Line::ComputePipeline { name, parts })
 }
 
-pub(crate) fn scratch(operands: &[&str]) -> Result<Line, NotDone> {
+pub(crate) fn scratch(operands: &[&str]) -> Result<Line, NotDone>
+    ensures { IfOk result (λ l. says_nothing l ≡ false) }
+{
     let [length, fill] = operands else {
         return Err(NotDone::BadLine);
     };

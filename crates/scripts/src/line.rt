@@ -1,4 +1,8 @@
 // What a line of a script says.
+ghost use Rattle.std.specs.Prelude.{◌≡◌, true, false, [], Ok, IfOk};
+ghost use Rattle.scripts.specs.declared.line.Line.TheVariants.{Nothing};
+ghost use Rattle.scripts.specs.Lines.{said, says_nothing};
+
 use crate::definitions::{compute_pipeline, layout, render_pipeline, scratch};
 use crate::not_done::NotDone;
 use crate::outside::{
@@ -161,7 +165,9 @@ fn read_call(alloc: Global, verb: &str, operands: &[&str]) -> Result<OwnedCall, 
     }
 }
 
-fn read_words(alloc: Global, verb: &str, operands: &[&str]) -> Result<Line, NotDone> {
+fn read_words(alloc: Global, verb: &str, operands: &[&str]) -> Result<Line, NotDone>
+    ensures { IfOk result (λ l. says_nothing l ≡ false) }
+{
     match verb {
         "layout" => layout(alloc, operands),
         "render_pipeline" => render_pipeline(alloc, operands),
@@ -174,17 +180,26 @@ fn read_words(alloc: Global, verb: &str, operands: &[&str]) -> Result<Line, NotD
 }
 
 // A line without its comment and the blanks round it.
-pub fn bare(text: &str) -> &str {
+pub fn bare(text: &str) -> &str
+    ensures { result.now ≡ said text.now }
+{
     text.split_once('#')
         .map_or(text, |(before, _)| before)
         .trim()
 }
 
-// What a line says.
-pub fn read(alloc: Global, text: &str) -> Result<Line, NotDone> {
-    let words: Vec<&str> = bare(text).split_whitespace().collect(alloc)?;
+// What a line says: nothing exactly where it is bare of words.
+pub fn read(alloc: Global, text: &str) -> Result<Line, NotDone>
+    ensures empty { said text.now ≡ [] → result ≡ Ok Nothing }
+    ensures words { IfOk result (λ l. says_nothing l ≡ true → said text.now ≡ []) }
+{
+    let bare = bare(text);
+    if bare.is_empty() {
+        return Ok(Line::Nothing);
+    }
+    let words: Vec<&str> = bare.split_whitespace().collect(alloc)?;
     match words.as_slice() {
-        [] => Ok(Line::Nothing),
+        [] => Err(NotDone::BadLine),
         [verb, operands @ ..] => read_words(alloc, verb, operands),
     }
 }
