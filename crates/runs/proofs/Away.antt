@@ -1,5 +1,6 @@
 -- Calls that a phase does not have.
-use Rattle.std.proofs.Common.{◌≡◌, ℕ, true, false, List, Option, refl, ap, ◌∙◌, Bor}
+use Rattle.std.proofs.Common.{◌≡◌, ℕ, true, false, List, Option, refl, sym, ap, ◌∙◌, Bor}
+use Rattle.std.proofs.lemmas.Bool.{true≢false}
 use Rattle.command_list.specs.declared.command.Half.{Half}
 use Rattle.command_list.specs.declared.command.Half.TheVariants.{Graphics, Compute}
 use Rattle.layouts.specs.declared.layout.PipelineLayout.{PipelineLayout}
@@ -18,6 +19,14 @@ use Rattle.encoder.proofs.Handling.{renders, computes}
 use Rattle.runs.specs.declared.call.Call.{Call}
 use Rattle.runs.specs.declared.call.Call.TheVariants as call
 use Rattle.runs.specs.Offering.{call_of}
+use Rattle.runs.specs.Leaving.{leaves}
+
+-- a call that leaves its phase is none that keeps to it
+pub apart : {c d : Call} → leaves c ≡ true → leaves d ≡ false → c ≡ d → ⊥
+apart l k e = true≢false (sym l ∙ ap leaves e ∙ k)
+
+pub apart_from : {c d : Call} → leaves c ≡ false → leaves d ≡ true → c ≡ d → ⊥
+apart_from k l e = apart l k (sym e)
 
 -- a pass of a half offers what any pass of that half does
 abbrev of_half : Half → Account → Account

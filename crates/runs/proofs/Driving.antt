@@ -38,9 +38,9 @@ set_behind [] x v ys = refl
 set_behind (w ∷ xs) x v ys = ap (λ r. w ∷ r) (set_behind xs x v ys)
 
 module _ (null : ℕ) (m : Meaning) (len fill : ℕ) (calls : List Call) (before now : List Answer) (i : ℕ) (s : Scene) (g : Driving null m len fill calls before now i s) where
-  pub driving_more : i < length calls → i < length before → (c : Call) → (a : Answer) (t : Scene) → Does s (call_of len fill (get_or calls i c)) (told a) t
+  more : i < length calls → i < length before → (c : Call) → (a : Answer) (t : Scene) → Does s (call_of len fill (get_or calls i c)) (told a) t
       → Driving null m len fill calls before (set now i a) (i + 1) t
-  driving_more h k c a t d =
+  more h k c a t d =
       let x = get_or calls i c in
       let moment : Moment = record { before = s; call = call_of len fill x; answer = told a; after = t } in
       let answers = map (λ (k : Moment). k.answer) g.run in
@@ -63,6 +63,12 @@ module _ (null : ℕ) (m : Meaning) (len fill : ℕ) (calls : List Call) (before
             ∙ ap (λ l. l ++ rest) (sym (map-append (λ (k : Moment). k.answer) g.run (moment ∷ [])));
         size = length-set now i a ∙ g.size;
       }
+
+  pub driving_more : i < length calls → i < length before → (c : Call) → (a : Answer) (t : Scene) → Does s (call_of len fill (get_or calls i c)) (told a) t
+      → (xs : List Answer) (u : Scene) → xs ≡ set now i a → u ≡ t → Driving null m len fill calls before xs (i + 1) u
+  driving_more h k c a t d xs u e f =
+      subst (λ (r : List Answer). Driving null m len fill calls before r (i + 1) u) (sym e)
+      (subst (λ (r : Scene). Driving null m len fill calls before (set now i a) (i + 1) r) (sym f) (more h k c a t d))
 
   pub driving_all : i ≡ min (length calls) (length before) → Driven null m len fill calls before now s
   driving_all e = record {

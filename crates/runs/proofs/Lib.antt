@@ -8,6 +8,7 @@ pub mod Following
 pub mod Viewing
 pub mod Accepted
 pub mod Law
+pub mod Listing
 pub mod Excluding
 pub mod Away
 pub mod Driving

@@ -1,5 +1,7 @@
 pub mod Marks
 pub mod Excluded
 pub mod Offering
+pub mod Leaving
 pub mod Driven
+pub mod Encoded
 pub mod Worked

@@ -1,4 +1,7 @@
 // A call with its operands.
+ghost use Rattle.std.specs.Prelude.{◌≡◌};
+ghost use Rattle.runs.specs.Leaving.{leaves};
+
 use bindings::binding::BufferBinding;
 use bindings::rect::Rect;
 use command_list::fault::Fault;
@@ -61,6 +64,24 @@ pub enum Call<'a> {
         buffer: u32,
         offset: u64,
     },
+}
+
+impl Call<'_> {
+    // Whether the call leaves its phase where it is taken: it begins or ends a list or a pass.
+    pub(crate) fn leaves_phase(&self) -> bool
+        ensures { result ≡ leaves self.now }
+    {
+        matches!(
+            self,
+            Call::BeginEncoding
+                | Call::EndEncoding
+                | Call::DiscardEncoding
+                | Call::BeginRenderPass { .. }
+                | Call::EndRenderPass
+                | Call::BeginComputePass { .. }
+                | Call::EndComputePass
+        )
+    }
 }
 
 // What a call was answered.

@@ -3,14 +3,16 @@ ghost use Rattle.std.specs.Prelude.{◌≡◌, length};
 ghost use Rattle.resources.specs.Batches.{Kept};
 ghost use Rattle.runs.specs.Offering.{phase_scene};
 ghost use Rattle.runs.specs.Driven.{Driven};
+ghost use Rattle.runs.specs.Encoded.{Encoded};
 
 use crate::call::{Answer, Call};
-use crate::phase::{Phase, offer};
+use crate::phase::{Phase, keep, leave};
 use device::recorder::Recorder;
 use encoder::phase::Idle;
 use resources::scratch::Scratch;
 
-// Makes an encoder over the recorder, and of it the calls, as many as there are places for answers.
+// Makes an encoder over the recorder, and of it the calls, as many as there are places for answers. The phase is moved
+// only by the calls that leave it.
 pub fn drive<R: Recorder>(
     recorder: R,
     null_target: u64,
@@ -23,9 +25,28 @@ pub fn drive<R: Recorder>(
 {
     let mut phase = Phase::Idle(Idle::new(recorder, null_target));
     for i in 0..calls.len().min(answers.len()) {
-        let (next, answer) = offer(phase, scratch, calls[i]);
-        phase = next;
-        answers[i] = answer;
+        let call = calls[i];
+        if call.leaves_phase() {
+            let (next, answer) = leave(phase, call);
+            phase = next;
+            answers[i] = answer;
+        } else {
+            answers[i] = keep(&mut phase, scratch, call);
+        }
     }
     phase
+}
+
+// Drives an encoder through the calls, and gives the recorder back. A list that the calls do not end is given up.
+pub fn encode<R: Recorder>(
+    recorder: R,
+    null_target: u64,
+    scratch: &mut Scratch,
+    calls: &[Call<'_>],
+    answers: &mut [Answer],
+) -> R
+    ensures kept { Kept scratch.old.mark.fill scratch.new.mark.fill scratch.old.entries.now scratch.new.entries.now }
+    ensures encoded { Encoded null_target (R.Recorder.meaning recorder) (length scratch.old.entries.now) scratch.old.mark.fill calls.now answers.old answers.new (R.Recorder.meaning result) }
+{
+    drive(recorder, null_target, scratch, calls, answers).into_recorder()
 }

@@ -1,10 +1,11 @@
 // An encoder in whichever phase it is, and the calls that are offered to it.
-ghost use Rattle.std.specs.Prelude.{◌≡◌, ℕ, length};
+ghost use Rattle.std.specs.Prelude.{◌≡◌, ℕ, true, false, length};
 ghost use Rattle.resources.specs.Batches.{Kept};
 ghost use Rattle.encoder.specs.Scenes.{Does};
 ghost use Rattle.encoder.specs.Handled.{answered};
 ghost use Rattle.encoder.specs.Phases.{idle_scene, list_scene, pass_scene};
 ghost use Rattle.runs.specs.Offering.{call_of, told, phase_scene};
+ghost use Rattle.runs.specs.Leaving.{leaves};
 
 use crate::call::{Answer, Call};
 use command_list::fault::Fault;
@@ -19,6 +20,21 @@ pub enum Phase<R> {
     Compute(ComputePass<R>),
 }
 
+impl<R: Recorder> Phase<R> {
+    // The recorder of an encoder that is done with, whether its list was ended or is given up.
+    pub fn into_recorder(self) -> R
+        ensures { R.Recorder.meaning result ≡ (phase_scene R.Recorder.meaning self).meaning }
+    {
+        let idle = match self {
+            Phase::Idle(idle) => idle,
+            Phase::Recording(list) => list.discard_encoding(),
+            Phase::Render(pass) => pass.discard_encoding(),
+            Phase::Compute(pass) => pass.discard_encoding(),
+        };
+        idle.into_recorder()
+    }
+}
+
 // The answer of a call that stays in its phase.
 fn answer_of(outcome: Result<(), Fault>) -> Answer
     ensures { told result ≡ answered outcome }
@@ -29,7 +45,8 @@ fn answer_of(outcome: Result<(), Fault>) -> Answer
     }
 }
 
-fn offer_idle<R: Recorder>(idle: Idle<R>, call: Call<'_>) -> (Phase<R>, Answer)
+// A call that begins a list.
+fn leave_idle<R: Recorder>(idle: Idle<R>, call: Call<'_>) -> (Phase<R>, Answer)
     ensures { (len fill : ℕ) → Does (idle_scene idle.null_target (R.Recorder.meaning idle.recorder)) (call_of len fill call.entry) (told result.1) (phase_scene R.Recorder.meaning result.0) }
 {
     match call {
@@ -38,27 +55,14 @@ fn offer_idle<R: Recorder>(idle: Idle<R>, call: Call<'_>) -> (Phase<R>, Answer)
     }
 }
 
-fn offer_list<R: Recorder>(
-    list: Recording<R>,
-    scratch: &mut Scratch,
-    call: Call<'_>,
-) -> (Phase<R>, Answer)
-    ensures lent { scratch.new.entries.ghost_name ≡ scratch.old.entries.ghost_name }
-    ensures kept { Kept scratch.old.mark.fill scratch.new.mark.fill scratch.old.entries.now scratch.new.entries.now }
-    ensures does { Does (list_scene list.null_target (R.Recorder.meaning list.recorder)) (call_of (length scratch.old.entries.now) scratch.old.mark.fill call.entry) (told result.1) (phase_scene R.Recorder.meaning result.0) }
+// A call that begins a pass or ends a list.
+fn leave_list<R: Recorder>(list: Recording<R>, call: Call<'_>) -> (Phase<R>, Answer)
+    requires { leaves call ≡ true }
+    ensures { (len fill : ℕ) → Does (list_scene list.null_target (R.Recorder.meaning list.recorder)) (call_of len fill call.entry) (told result.1) (phase_scene R.Recorder.meaning result.0) }
 {
-    let mut list = list;
     match call {
         Call::EndEncoding => (Phase::Idle(list.end_encoding()), Answer::Taken),
         Call::DiscardEncoding => (Phase::Idle(list.discard_encoding()), Answer::Taken),
-        Call::TransitionBuffers(barriers) => {
-            let answer = list.transition_buffers(scratch, barriers);
-            (Phase::Recording(list), answer_of(answer))
-        }
-        Call::TransitionTextures(barriers) => {
-            let answer = list.transition_textures(scratch, barriers);
-            (Phase::Recording(list), answer_of(answer))
-        }
         Call::BeginRenderPass {
             label,
             width,
@@ -76,124 +80,152 @@ fn offer_list<R: Recorder>(
     }
 }
 
-fn offer_render<R: Recorder>(pass: RenderPass<R>, call: Call<'_>) -> (Phase<R>, Answer)
+// A call that ends a render pass.
+fn leave_render<R: Recorder>(pass: RenderPass<R>, call: Call<'_>) -> (Phase<R>, Answer)
+    requires { leaves call ≡ true }
     ensures { (len fill : ℕ) → Does (pass_scene pass.pass pass.null_target (R.Recorder.meaning pass.recorder)) (call_of len fill call.entry) (told result.1) (phase_scene R.Recorder.meaning result.0) }
 {
-    let mut pass = pass;
     match call {
         Call::DiscardEncoding => (Phase::Idle(pass.discard_encoding()), Answer::Taken),
         Call::EndRenderPass => match pass.end_render_pass() {
             Ok(list) => (Phase::Recording(list), Answer::Taken),
             Err(Refusal { phase, fault }) => (Phase::Render(phase), Answer::Refused(fault)),
         },
-        Call::SetBindGroup {
-            layout,
-            index,
-            group,
-            dynamic_offsets,
-        } => {
-            let answer = pass.set_bind_group(layout, index, group, dynamic_offsets);
-            (Phase::Render(pass), answer_of(answer))
-        }
-        Call::SetImmediates {
-            layout,
-            offset_bytes,
-            words,
-        } => {
-            let answer = pass.set_immediates(layout, offset_bytes, words);
-            (Phase::Render(pass), answer_of(answer))
-        }
-        Call::SetRenderPipeline(pipeline) => {
-            let answer = pass.set_render_pipeline(pipeline);
-            (Phase::Render(pass), answer_of(answer))
-        }
-        Call::SetVertexBuffer { index, binding } => {
-            let answer = pass.set_vertex_buffer(index, binding);
-            (Phase::Render(pass), answer_of(answer))
-        }
-        Call::SetViewport(viewport) => {
-            let answer = pass.set_viewport(viewport);
-            (Phase::Render(pass), answer_of(answer))
-        }
-        Call::SetScissorRect(rect) => {
-            let answer = pass.set_scissor_rect(rect);
-            (Phase::Render(pass), answer_of(answer))
-        }
-        Call::Draw {
-            first_vertex,
-            vertex_count,
-            first_instance,
-            instance_count,
-        } => {
-            let answer = pass.draw(first_vertex, vertex_count, first_instance, instance_count);
-            (Phase::Render(pass), answer_of(answer))
-        }
-        Call::DrawIndirect {
-            buffer,
-            offset,
-            draw_count,
-        } => {
-            let answer = pass.draw_indirect(buffer, offset, draw_count);
-            (Phase::Render(pass), answer_of(answer))
-        }
         _ => (Phase::Render(pass), Answer::NotOffered),
     }
 }
 
-fn offer_compute<R: Recorder>(
-    pass: ComputePass<R>,
-    scratch: &mut Scratch,
-    call: Call<'_>,
-) -> (Phase<R>, Answer)
-    ensures lent { scratch.new.entries.ghost_name ≡ scratch.old.entries.ghost_name }
-    ensures kept { Kept scratch.old.mark.fill scratch.new.mark.fill scratch.old.entries.now scratch.new.entries.now }
-    ensures does { Does (pass_scene pass.pass pass.null_target (R.Recorder.meaning pass.recorder)) (call_of (length scratch.old.entries.now) scratch.old.mark.fill call.entry) (told result.1) (phase_scene R.Recorder.meaning result.0) }
+// A call that ends a compute pass.
+fn leave_compute<R: Recorder>(pass: ComputePass<R>, call: Call<'_>) -> (Phase<R>, Answer)
+    requires { leaves call ≡ true }
+    ensures { (len fill : ℕ) → Does (pass_scene pass.pass pass.null_target (R.Recorder.meaning pass.recorder)) (call_of len fill call.entry) (told result.1) (phase_scene R.Recorder.meaning result.0) }
 {
-    let mut pass = pass;
     match call {
         Call::DiscardEncoding => (Phase::Idle(pass.discard_encoding()), Answer::Taken),
         Call::EndComputePass => match pass.end_compute_pass() {
             Ok(list) => (Phase::Recording(list), Answer::Taken),
             Err(Refusal { phase, fault }) => (Phase::Compute(phase), Answer::Refused(fault)),
         },
+        _ => (Phase::Compute(pass), Answer::NotOffered),
+    }
+}
+
+// A call that leaves its phase where it is taken.
+pub(crate) fn leave<R: Recorder>(phase: Phase<R>, call: Call<'_>) -> (Phase<R>, Answer)
+    requires { leaves call ≡ true }
+    ensures { (len fill : ℕ) → Does (phase_scene R.Recorder.meaning phase) (call_of len fill call.entry) (told result.1) (phase_scene R.Recorder.meaning result.0) }
+{
+    match phase {
+        Phase::Idle(idle) => leave_idle(idle, call),
+        Phase::Recording(list) => leave_list(list, call),
+        Phase::Render(pass) => leave_render(pass, call),
+        Phase::Compute(pass) => leave_compute(pass, call),
+    }
+}
+
+fn keep_list<R: Recorder>(list: &mut Recording<R>, scratch: &mut Scratch, call: Call<'_>) -> Answer
+    requires { leaves call ≡ false }
+    ensures lent { scratch.new.entries.ghost_name ≡ scratch.old.entries.ghost_name }
+    ensures kept { Kept scratch.old.mark.fill scratch.new.mark.fill scratch.old.entries.now scratch.new.entries.now }
+    ensures does { Does (list_scene list.old.null_target (R.Recorder.meaning list.old.recorder)) (call_of (length scratch.old.entries.now) scratch.old.mark.fill call.entry) (told result) (list_scene list.new.null_target (R.Recorder.meaning list.new.recorder)) }
+{
+    match call {
+        Call::TransitionBuffers(barriers) => answer_of(list.transition_buffers(scratch, barriers)),
+        Call::TransitionTextures(barriers) => answer_of(list.transition_textures(
+            scratch, barriers,
+        )),
+        _ => Answer::NotOffered,
+    }
+}
+
+fn keep_render<R: Recorder>(pass: &mut RenderPass<R>, call: Call<'_>) -> Answer
+    requires { leaves call ≡ false }
+    ensures { (len fill : ℕ) → Does (pass_scene pass.old.pass pass.old.null_target (R.Recorder.meaning pass.old.recorder)) (call_of len fill call.entry) (told result) (pass_scene pass.new.pass pass.new.null_target (R.Recorder.meaning pass.new.recorder)) }
+{
+    match call {
         Call::SetBindGroup {
             layout,
             index,
             group,
             dynamic_offsets,
-        } => {
-            let answer = pass.set_bind_group(layout, index, group, dynamic_offsets);
-            (Phase::Compute(pass), answer_of(answer))
-        }
+        } => answer_of(pass.set_bind_group(layout, index, group, dynamic_offsets)),
         Call::SetImmediates {
             layout,
             offset_bytes,
             words,
-        } => {
-            let answer = pass.set_immediates(layout, offset_bytes, words);
-            (Phase::Compute(pass), answer_of(answer))
+        } => answer_of(pass.set_immediates(layout, offset_bytes, words)),
+        Call::SetRenderPipeline(pipeline) => answer_of(pass.set_render_pipeline(pipeline)),
+        Call::SetVertexBuffer { index, binding } => {
+            answer_of(pass.set_vertex_buffer(index, binding))
         }
-        Call::SetComputePipeline(pipeline) => {
-            let answer = pass.set_compute_pipeline(pipeline);
-            (Phase::Compute(pass), answer_of(answer))
-        }
-        Call::DispatchWorkgroups(count) => {
-            let answer = pass.dispatch_workgroups(count);
-            (Phase::Compute(pass), answer_of(answer))
-        }
+        Call::SetViewport(viewport) => answer_of(pass.set_viewport(viewport)),
+        Call::SetScissorRect(rect) => answer_of(pass.set_scissor_rect(rect)),
+        Call::Draw {
+            first_vertex,
+            vertex_count,
+            first_instance,
+            instance_count,
+        } => answer_of(pass.draw(first_vertex, vertex_count, first_instance, instance_count)),
+        Call::DrawIndirect {
+            buffer,
+            offset,
+            draw_count,
+        } => answer_of(pass.draw_indirect(buffer, offset, draw_count)),
+        _ => Answer::NotOffered,
+    }
+}
+
+fn keep_compute<R: Recorder>(
+    pass: &mut ComputePass<R>,
+    scratch: &mut Scratch,
+    call: Call<'_>,
+) -> Answer
+    requires { leaves call ≡ false }
+    ensures lent { scratch.new.entries.ghost_name ≡ scratch.old.entries.ghost_name }
+    ensures kept { Kept scratch.old.mark.fill scratch.new.mark.fill scratch.old.entries.now scratch.new.entries.now }
+    ensures does { Does (pass_scene pass.old.pass pass.old.null_target (R.Recorder.meaning pass.old.recorder)) (call_of (length scratch.old.entries.now) scratch.old.mark.fill call.entry) (told result) (pass_scene pass.new.pass pass.new.null_target (R.Recorder.meaning pass.new.recorder)) }
+{
+    match call {
+        Call::SetBindGroup {
+            layout,
+            index,
+            group,
+            dynamic_offsets,
+        } => answer_of(pass.set_bind_group(layout, index, group, dynamic_offsets)),
+        Call::SetImmediates {
+            layout,
+            offset_bytes,
+            words,
+        } => answer_of(pass.set_immediates(layout, offset_bytes, words)),
+        Call::SetComputePipeline(pipeline) => answer_of(pass.set_compute_pipeline(pipeline)),
+        Call::DispatchWorkgroups(count) => answer_of(pass.dispatch_workgroups(count)),
         Call::DispatchWorkgroupsIndirect { buffer, offset } => {
-            let answer = pass.dispatch_workgroups_indirect(buffer, offset);
-            (Phase::Compute(pass), answer_of(answer))
+            answer_of(pass.dispatch_workgroups_indirect(buffer, offset))
         }
-        Call::TransitionBuffers(barriers) => {
-            let answer = pass.transition_buffers(scratch, barriers);
-            (Phase::Compute(pass), answer_of(answer))
-        }
-        Call::TransitionTextures(barriers) => {
-            let answer = pass.transition_textures(scratch, barriers);
-            (Phase::Compute(pass), answer_of(answer))
-        }
-        _ => (Phase::Compute(pass), Answer::NotOffered),
+        Call::TransitionBuffers(barriers) => answer_of(pass.transition_buffers(scratch, barriers)),
+        Call::TransitionTextures(barriers) => answer_of(pass.transition_textures(
+            scratch, barriers,
+        )),
+        _ => Answer::NotOffered,
+    }
+}
+
+// A call that keeps to its phase, which stays where it is.
+pub(crate) fn keep<R: Recorder>(
+    phase: &mut Phase<R>,
+    scratch: &mut Scratch,
+    call: Call<'_>,
+) -> Answer
+    requires { leaves call ≡ false }
+    ensures lent { scratch.new.entries.ghost_name ≡ scratch.old.entries.ghost_name }
+    ensures kept { Kept scratch.old.mark.fill scratch.new.mark.fill scratch.old.entries.now scratch.new.entries.now }
+    ensures does { Does (phase_scene R.Recorder.meaning phase.old) (call_of (length scratch.old.entries.now) scratch.old.mark.fill call.entry) (told result) (phase_scene R.Recorder.meaning phase.new) }
+{
+    match phase {
+        Phase::Idle(_) => Answer::NotOffered,
+        Phase::Recording(list) => keep_list(list, scratch, call),
+        Phase::Render(pass) => keep_render(pass, call),
+        Phase::Compute(pass) => keep_compute(pass, scratch, call),
     }
 }
 
@@ -207,10 +239,10 @@ pub fn offer<R: Recorder>(
     ensures kept { Kept scratch.old.mark.fill scratch.new.mark.fill scratch.old.entries.now scratch.new.entries.now }
     ensures does { Does (phase_scene R.Recorder.meaning phase) (call_of (length scratch.old.entries.now) scratch.old.mark.fill call.entry) (told result.1) (phase_scene R.Recorder.meaning result.0) }
 {
-    match phase {
-        Phase::Idle(idle) => offer_idle(idle, call),
-        Phase::Recording(list) => offer_list(list, scratch, call),
-        Phase::Render(pass) => offer_render(pass, call),
-        Phase::Compute(pass) => offer_compute(pass, scratch, call),
+    if call.leaves_phase() {
+        return leave(phase, call);
     }
+    let mut phase = phase;
+    let answer = keep(&mut phase, scratch, call);
+    (phase, answer)
 }
