@@ -30,3 +30,24 @@ pub run_shows : (run : List Moment) (s t : Scene) → Run s run t → (cs : List
 run_shows [] s t r cs e = ap (λ (x : Scene). x.meaning.shown) r ∙ e
 run_shows (m ∷ ms) s t (same, does, rest) cs e =
     run_shows ms m.after t rest (listed_by m cs) (shown_by m cs does (ap (λ (x : Scene). x.meaning.shown) same ∙ e))
+
+same_start : (c : Call) (m : Meaning) → (start_of c m).made ≡ m.made
+same_start begin_encoding m = refl
+same_start end_encoding m = refl
+same_start discard_encoding m = refl
+same_start (opening o) m = refl
+same_start (ending h) m = refl
+same_start (quiet q) m = refl
+same_start (set c) m = refl
+same_start (drawing c) m = refl
+
+made_by : (m : Moment) → Does m.before m.call m.answer m.after → m.after.meaning.made ≡ m.before.meaning.made
+made_by m d = by (is_taken m.answer) refl
+  where
+    by : (b : Bool) → is_taken m.answer ≡ b → m.after.meaning.made ≡ m.before.meaning.made
+    by true t = (d.recorded t).made ∙ same_start m.call m.before.meaning
+    by false t = ap (λ (s : Scene). s.meaning.made) (d.refused t)
+
+pub run_made : (run : List Moment) (s t : Scene) → Run s run t → t.meaning.made ≡ s.meaning.made
+run_made [] s t r = ap (λ (x : Scene). x.meaning.made) r
+run_made (m ∷ ms) s t (same, does, rest) = run_made ms m.after t rest ∙ made_by m does ∙ ap (λ (x : Scene). x.meaning.made) same

@@ -33,4 +33,5 @@ pub record Encoded (null : ℕ) (m : Meaning) (len fill : ℕ) (calls : List Off
   pub scene : Scene
   pub driven : Driven null m len fill calls before after scene
   pub left : n ≡ scene.meaning
+  pub made : n.made ≡ m.made
   pub shows : (cs : List Command) → m.shown ≡ Some cs → n.shown ≡ Some (recorded driven.run cs)

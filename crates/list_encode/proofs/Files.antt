@@ -1,0 +1,16 @@
+-- A list whose meaning shows some commands is a file of them.
+use Rattle.std.proofs.Common.{◌≡◌, ℕ, ◌<◌, ◌≤◌, true, ltb, leb, List, length, take, Some, ap, ◌∙◌, arith}
+use Rattle.std.proofs.lemmas.Bool.{lt-ltb, le-leb, cond-true, false≢true}
+use Rattle.command_list.specs.Commands.{Command}
+use Rattle.command_list.specs.Files.{Verdict, accepted, refused, file, is_accepted}
+use Rattle.list_bytes.specs.Listed.{is_whole, commands_in, listed, room_for}
+
+accepted_of : (v : Verdict) (cs : List Command) → is_accepted v ≡ true → Some (commands_in v) ≡ Some cs → v ≡ accepted cs
+accepted_of (accepted ds) cs a e = let same : ds ≡ cs = cc in ap accepted same
+accepted_of (refused r p) cs a e = absurd (false≢true a)
+
+pub reads_back : (bs : List ℕ) (n : ℕ) (cs : List Command) → is_whole bs n ≡ ltb 0 (length bs) → 0 < (listed bs n).made → (listed bs n).shown ≡ Some cs → file (take n bs) ≡ accepted cs
+reads_back bs n cs w m e = accepted_of (file (take n bs)) cs (w ∙ lt-ltb 0 (length bs) (omega (arith, m))) e
+
+pub some_room : (n made : ℕ) → n ≤ 65536 → 1 < n → made ≡ room_for n → 0 < made
+some_room n made short long e = let room = e ∙ cond-true (leb n 65536) _ _ (le-leb n 65536 short) in omega (arith, long, room)
