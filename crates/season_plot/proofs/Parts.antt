@@ -12,7 +12,8 @@ use Rattle.layouts.specs.declared.info.GroupEntry.{GroupEntry}
 use Rattle.layouts.specs.declared.info.PipelineLayoutSpecialConstants.{PipelineLayoutSpecialConstants}
 use Rattle.layouts.specs.declared.layout.PipelineLayout.{PipelineLayout}
 use Rattle.layouts.specs.Owners.{owner_of, once_below, placed, verdict}
-use Rattle.season_plot.specs.Plot.{PlotLayout, plot_label}
+use Rattle.runs.specs.Worked.{IsPlotted}
+use Rattle.season_plot.specs.Plot.{plot_label}
 
 -- the label's bytes
 abbrev text : List ℕ
@@ -32,7 +33,7 @@ label_made (Err f) (inr q) = q.2 text_formed
 
 -- the layout's parts
 abbrev special : Option PipelineLayoutSpecialConstants
-special = Some (record { root_index = 2; own_signature = false })
+special = Some (record { root_index = 2; own_signature = true })
 
 abbrev groups : List GroupEntry
 groups = record { index = 0; info = record { base_root_index = 0; table = true; uniforms = 1 } } ∷ []
@@ -44,12 +45,6 @@ accepted = refl
 pub layout_made : (r : Result PipelineLayout Fault)
     → MatchResult r (λ _. verdict 5 3 special None groups ≡ None) (λ f. (verdict 5 3 special None groups ≡ Some (number_of f.number)) × (f.place ≡ 0))
     → IfOk r (λ l. (l.signature ≡ 5) × (l.total_root_elements ≡ 3) × (l.special_constants ≡ special) × (l.immediates_info ≡ None) × (l.bind_group_infos ≡ placed groups))
-    → MatchResult r PlotLayout (λ _. ⊥)
-layout_made (Ok l) a q = record {
-  signature = q.0;
-  total = q.1;
-  table = λ i. owner_of (q.2 i) (q.3 i) (q.4 i) 0;
-  uniform = λ i. owner_of (q.2 i) (q.3 i) (q.4 i) 1;
-  special = λ i. owner_of (q.2 i) (q.3 i) (q.4 i) 2;
-}
+    → MatchResult r (IsPlotted true) (λ _. ⊥)
+layout_made (Ok l) a q = record { signature = q.0; total = q.1; special = q.2; immediates = q.3; groups = q.4 }
 layout_made (Err f) a q = absurd (false≢true (ap is_some (sym accepted ∙ a.0)))

@@ -11,7 +11,7 @@ use std::test::Fail;
 fn fill(bytes: &mut [u8]) -> Result<(usize, usize), Fault> {
     let label = season_plot::label()?;
     let upload = season_plot::upload();
-    let commands = season_plot::commands(upload.as_slice(), label.units());
+    let commands = season_plot::commands::commands(upload.as_slice(), label.units());
     let mut end = begin(bytes)?;
     for (count, command) in commands.iter().cycle().take(MOST_BYTES).enumerate() {
         let Ok(next) = command.append_to(bytes, end) else {

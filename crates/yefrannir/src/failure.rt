@@ -14,9 +14,11 @@ pub(crate) enum Failure {
     NoResource,
     NoNumber,
     NoLabel,
+    NotOffered,
     OtherBytes,
     OtherState,
     OtherSignature,
+    OtherSample,
     // What is refused, and why.
     Refused(String, Fault),
     // A file that cannot be read, and why.
@@ -47,10 +49,14 @@ impl fmt::Display for Failure {
             }
             Failure::NoNumber => f.write_str("a usage is a whole number"),
             Failure::NoLabel => f.write_str("which label? give a text"),
+            Failure::NotOffered => f.write_str("a call of the plot is not offered"),
             Failure::OtherBytes => f.write_str("the rewritten plot has other bytes"),
             Failure::OtherState => f.write_str("the board's state and the list's differ"),
             Failure::OtherSignature => {
                 f.write_str("the board's root signature is not the layout's")
+            }
+            Failure::OtherSample => {
+                f.write_str("the next curve's first sample on the board is not the draw's")
             }
             Failure::Refused(what, fault) => write!(f, "{what} is refused: {fault}"),
             Failure::Unread(path, error) => write!(f, "cannot read {path}: {error}"),

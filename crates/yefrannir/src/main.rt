@@ -7,32 +7,23 @@ mod meant;
 mod named;
 mod options;
 mod phases;
+mod plot;
 mod script;
 mod show;
 mod shown;
 mod timing;
 
-use board::board::Board;
-use command_list::command::Half;
-use command_list::fault::Fault;
 use command_list::record::Record;
-use device::ration::Ration;
-use device::recorder::Recorder;
 use facts::{BUFFER_FLAGS, TEXTURE_FLAGS, print_label, print_layout, print_usage};
-use failure::{Failure, refusal};
-use layouts::layout::PipelineLayout;
-use list_bytes::{ListBytes, measured};
-use list_file::{check, records_are_known, rewrite, write};
-use list_play::board_of;
+use failure::Failure;
 use list_writer::writer::Recordable;
 use named::Named;
 use options::{Options, read_options};
-use resources::batch::transition;
-use resources::scratch::{Mark, Scratch};
+use plot::{plot_layout, run_plot};
 use resources::uses::{BufferUses, TextureUses};
-use script::{FREE, Session};
+use script::Session;
 use show::Operands;
-use shown::{print_play, same};
+use shown::print_play;
 use std::process::ExitCode;
 use std::rt::Files;
 use std::{env, fs};
@@ -40,8 +31,9 @@ use timing::{time_list, time_sample};
 
 const HELP: &str = "yefrannir shows Direct3D 12 command lists
 
-  yefrannir                     make the embedded plot's layout, record the plot, read it back,
-                                print it, rewrite it, and play it on a board
+  yefrannir                     take the embedded plot through the encoder, read its list back,
+                                print it, rewrite it, and play it on a board: what the next curve
+                                finds there is what its draw says
   yefrannir show FILE           print the records of a list file
   yefrannir play FILE           play a list file on a board: what each draw finds on the device,
                                 and how often each command was made and each slot written
@@ -55,14 +47,12 @@ const HELP: &str = "yefrannir shows Direct3D 12 command lists
   yefrannir layout              who owns each root slot of the embedded plot's layout
   yefrannir label TEXT          the record of an event with this label
   yefrannir show [FILE] --time  how long it takes to read and to rewrite a list file; with no
-                                FILE, a list of 64 KiB, and how long it takes to write it
+                                FILE, a list of 64 KiB, and how long it takes to write it, and
+                                how long the encoder takes for the plot
   yefrannir help                this text
 
 A line of a list has the record's byte offset, its code, its name and its operands.
 A list that is refused is told with a number and a place: docs/REFUSALS.md has them all.";
-
-// The bytes that the plot may take.
-const ALLOWANCE: usize = 1000;
 
 // A record on a line.
 fn print_record(rt: &impl Print, at: usize, record: Record) -> Result<(), Failure> {
@@ -76,100 +66,6 @@ fn print_record(rt: &impl Print, at: usize, record: Record) -> Result<(), Failur
 // The records of a file, up to the first that is refused.
 fn print_list(rt: &(impl Print + AllocGlobal), file: Named) -> Result<(), Failure> {
     file.each_record(rt.alloc(), |at, record| print_record(rt, at, record))
-}
-
-// Gives the plot to a recorder: the upload as a transition, which records the first command, and the others as they are.
-fn record_plot<R: Recorder>(recorder: &mut R) -> Result<(), Fault> {
-    let mut scratch = Scratch {
-        entries: &mut [FREE],
-        mark: Mark { fill: 0 },
-    };
-    transition(recorder, &mut scratch, &[season_plot::UPLOAD])?;
-    let label = season_plot::label()?;
-    for command in season_plot::commands(&[], label.units())
-        .into_iter()
-        .skip(1)
-    {
-        recorder.record(command)?;
-    }
-    Ok(())
-}
-
-// Gives the plot to a recorder under an allowance, and the recorder back.
-fn ration_plot<R: Recorder + Drop>(below: R) -> Result<R, Fault> {
-    let mut ration = Ration::new(below, ALLOWANCE);
-    record_plot(&mut ration)?;
-    Ok(ration.into_below())
-}
-
-// The plot as list bytes.
-fn plot_list(bytes: &mut [u8]) -> Result<&[u8], Fault> {
-    let list = ration_plot(ListBytes::new(measured(bytes)?))?;
-    let (end, bytes) = list.finish();
-    Ok(&bytes[0..end])
-}
-
-// Whether the plot, written in one call, and its list, rewritten, have the list's bytes.
-fn bytes_agree(list: &[u8]) -> Result<bool, Fault> {
-    let label = season_plot::label()?;
-    let upload = season_plot::upload();
-    let commands = season_plot::commands(upload.as_slice(), label.units());
-    let mut written = [0u8; 1024];
-    let end = write(&commands, &mut written)?;
-    let mut again = [0u8; 1024];
-    let size = rewrite(list, &mut again)?;
-    Ok(written.get(0..end) == Some(list) && again.get(0..size) == Some(list))
-}
-
-// A board that was given the plot.
-fn plot_board() -> Result<Board, Fault> {
-    let mut board = Board::new(ALLOWANCE);
-    record_plot(&mut board)?;
-    Ok(board)
-}
-
-// The plot's list: printed, rewritten, and played on a board, which has to agree with one that was given the plot and
-// with the plot's layout.
-fn show_plot(
-    rt: &(impl Print + AllocGlobal),
-    plot: Named,
-    layout: &PipelineLayout,
-) -> Result<(), Failure> {
-    let Named { list, .. } = plot;
-    let refusal = |fault| plot.refusal(rt.alloc(), fault);
-    print_list(rt, plot)?;
-    let count = check(list).map_err(refusal)?;
-    if !bytes_agree(list).map_err(refusal)? {
-        return Err(Failure::OtherBytes);
-    }
-    let end = list.len();
-    println!(rt; "{count} records in {end} bytes; rewritten, the bytes are equal")?;
-    let board = board_of(list).map_err(refusal)?;
-    if !same(&board, &plot_board().map_err(refusal)?) {
-        return Err(Failure::OtherState);
-    }
-    println!(rt; "played on a board, its state and the list's agree")?;
-    if board.signature(Half::Graphics) != layout.signature() {
-        return Err(Failure::OtherSignature);
-    }
-    println!(rt; "the board's root signature is the layout's")?;
-    Ok(())
-}
-
-// The plot's layout.
-fn plot_layout(rt: &impl AllocGlobal) -> Result<PipelineLayout, Failure> {
-    season_plot::layout().map_err(|fault| refusal(rt.alloc(), "the plot's layout", fault))
-}
-
-// The embedded plot.
-fn run_plot(rt: &(impl Print + AllocGlobal)) -> Result<(), Failure> {
-    records_are_known();
-    let layout = plot_layout(rt)?;
-    print_layout(rt, &layout)?;
-    let name = "the plot";
-    let mut bytes = [0u8; 1024];
-    let list = plot_list(&mut bytes).map_err(|fault| refusal(rt.alloc(), name, fault))?;
-    show_plot(rt, Named { name, list }, &layout)
 }
 
 // The bytes of a file.

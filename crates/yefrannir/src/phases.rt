@@ -1,5 +1,4 @@
-// What is asked of an encoder in whichever phase it is: its list, its recorder, and what an answer of it says.
-use device::recorder::Recorder;
+// What is asked of an encoder in whichever phase it is: its list, and what an answer of it says.
 use list_bytes::ListBytes;
 use runs::call::Answer;
 use runs::phase::Phase;
@@ -24,17 +23,6 @@ pub(crate) fn written<R: Readable>(phase: &Phase<R>) -> &[u8] {
         Phase::Render(pass) => pass.recorder().written(),
         Phase::Compute(pass) => pass.recorder().written(),
     }
-}
-
-// The recorder of an encoder that is done with, whether its list was ended or not.
-pub(crate) fn into_recorder<R: Recorder>(phase: Phase<R>) -> R {
-    let idle = match phase {
-        Phase::Idle(idle) => idle,
-        Phase::Recording(list) => list.discard_encoding(),
-        Phase::Render(pass) => pass.discard_encoding(),
-        Phase::Compute(pass) => pass.discard_encoding(),
-    };
-    idle.into_recorder()
 }
 
 // What an answer says of a line.

@@ -4,7 +4,7 @@ ghost use Rattle.std.specs.Prelude.{◌≤◌, length, IfOk};
 use crate::failure::Failure;
 use crate::meant::{Found, meant};
 use crate::named::Named;
-use crate::phases::{Readable, into_recorder, outcome, written};
+use crate::phases::{Readable, outcome, written};
 use command_list::command::{Barrier, BarrierType, Half};
 use command_list::reader::MOST_BYTES;
 use device::recorder::Recorder;
@@ -192,14 +192,14 @@ impl Session {
         let (mut phase, mut told) = self.do_line(Phase::Idle(idle), first);
         for done in 0..lines.len() {
             if let Err(failure) = told {
-                return (into_recorder(phase), Err(failure));
+                return (phase.into_recorder(), Err(failure));
             }
             if matches!(&phase, Phase::Idle(_)) && lines[done] == BEGINS {
-                return (into_recorder(phase), Ok(done));
+                return (phase.into_recorder(), Ok(done));
             }
             (phase, told) = self.do_line(phase, lines[done]);
         }
-        (into_recorder(phase), told.map(|()| lines.len()))
+        (phase.into_recorder(), told.map(|()| lines.len()))
     }
 
     // Does one list in these bytes. How long it is, and how many lines behind the first were done.
