@@ -26,21 +26,21 @@ use Rattle.encoder.specs.Phases.{scene}
 use Rattle.runs.specs.Worked.{come_to, curves, labelled, spent, behind, behind_all, outcomes, plots, Come_true, empty, IsPlotted, WorkedPlots}
 
 -- the layout with its parts written out
-abbrev groups_of : List (Option BindGroupInfo)
+abbrev pub groups_of : List (Option BindGroupInfo)
 groups_of = Some (record { base_root_index = 0; table = true; uniforms = 1 }) ∷ None ∷ None ∷ None ∷ None ∷ None ∷ None ∷ None ∷ []
 
 module _ (own : Bool) (k : PipelineLayout) (is : IsPlotted own k) where
-  abbrev special : Option PipelineLayoutSpecialConstants
+  abbrev pub special : Option PipelineLayoutSpecialConstants
   special = Some (record { root_index = 2; own_signature = own })
 
-  owner_same : (j : ℕ) → owner_of k.special_constants k.immediates_info k.bind_group_infos j ≡ owner_of special None groups_of j
+  pub owner_same : (j : ℕ) → owner_of k.special_constants k.immediates_info k.bind_group_infos j ≡ owner_of special None groups_of j
   owner_same j = λ i. owner_of (is.special i) (is.immediates i) (is.groups i) j
 
-  sound_is : sound 5 3 special None groups_of ≡ true
+  pub sound_is : sound 5 3 special None groups_of ≡ true
   unfolding once_below
   sound_is = refl
 
-  abbrev written : PipelineLayout
+  abbrev pub written : PipelineLayout
   written = record {
     signature = 5;
     total_root_elements = 3;
@@ -54,7 +54,7 @@ module _ (own : Bool) (k : PipelineLayout) (is : IsPlotted own k) where
     uniform_slots = λ j. k.uniform_slots j ∙ ap (owned is_uniform) (owner_same j);
   }
 
-  is_written : k ≡ written
+  pub is_written : k ≡ written
   is_written = (layout_decides k written).0 ((λ i. test own (is.signature i) (is.total i) (is.special i) (is.immediates i) (is.groups i)) ∙ same own)
     where
       test : Bool → ℕ → ℕ → Option PipelineLayoutSpecialConstants → Option ImmediatesInfo → List (Option BindGroupInfo) → Bool

@@ -1,5 +1,5 @@
 -- The plot's label and layout are made.
-use Rattle.std.proofs.Common.{◌≡◌, ℕ, true, false, List, [], ◌∷◌, take, is_some, IfOk, Some, None, Ok, Err, Option, Result, sym, refl, ap, ◌∙◌, inl, inr, arith, lit<, MatchResult}
+use Rattle.std.proofs.Common.{◌≡◌, ℕ, true, List, [], ◌∷◌, take, is_some, IfOk, Some, None, Ok, Err, Option, Result, sym, refl, ap, ◌∙◌, inl, inr, arith, lit<, MatchResult}
 use Rattle.std.specs.Str.{chars}
 use Rattle.std.proofs.lemmas.Bool.{false≢true}
 use Rattle.command_list.specs.declared.fault.Fault.{Fault}
@@ -11,7 +11,7 @@ use Rattle.labels.specs.Kept.{units_of}
 use Rattle.layouts.specs.declared.info.GroupEntry.{GroupEntry}
 use Rattle.layouts.specs.declared.info.PipelineLayoutSpecialConstants.{PipelineLayoutSpecialConstants}
 use Rattle.layouts.specs.declared.layout.PipelineLayout.{PipelineLayout}
-use Rattle.layouts.specs.Owners.{owner_of, once_below, placed, verdict}
+use Rattle.layouts.specs.Owners.{once_below, placed, verdict}
 use Rattle.runs.specs.Worked.{IsPlotted}
 use Rattle.season_plot.specs.Plot.{plot_label}
 

@@ -1,5 +1,5 @@
 -- The season plot: its calls, and the commands that they come to.
-use Rattle.std.specs.Prelude.{ℕ, true, false, List, [], ◌∷◌, Some, None}
+use Rattle.std.specs.Prelude.{◌≡◌, ℕ, true, false, List, [], ◌∷◌, ◌++◌, Some, None, Option, option_map}
 use Rattle.command_list.specs.declared.command.Barrier.{Barrier}
 use Rattle.command_list.specs.declared.command.BarrierType.TheVariants.{Transition}
 use Rattle.command_list.specs.declared.command.Half.TheVariants.{Graphics}
@@ -9,7 +9,9 @@ use Rattle.layouts.specs.declared.pipeline.RenderPipeline.{RenderPipeline}
 use Rattle.resources.specs.Usages.{buffer}
 use Rattle.passes.specs.Calls.{set_bind_group, set_render_pipeline, set_vertex_buffer, draw, draw_indirect}
 use Rattle.encoder.specs.Opening.{render_pass, transition}
-use Rattle.encoder.specs.Scenes.{Call, begin_encoding, end_encoding, opening, ending, quiet, set, drawing}
+use Rattle.encoder.specs.Scenes.{Call, begin_encoding, end_encoding, opening, ending, quiet, set, drawing, idle}
+use Rattle.encoder.specs.Phases.{scene}
+use Rattle.runs.specs.Worked.{Outcome, makes, refuses, passed_over, outcomes, empty, IsPlotted}
 
 -- pipeline 9 of a layout, which draws line strips, with stride 16 at vertex slot 0
 abbrev pub plot_pipeline : PipelineLayout → RenderPipeline
@@ -79,3 +81,14 @@ plot_commands upload label =
     ∷ SetDescriptorHeaps false
     ∷ EndEvent
     ∷ []
+
+-- the commands of all calls, if each is accepted
+abbrev pub all_made : List Outcome → Option (List Command)
+all_made [] = Some []
+all_made (makes cs ∷ os) = option_map (λ ds. cs ++ ds) (all_made os)
+all_made (refuses n p ∷ os) = None
+all_made (passed_over ∷ os) = None
+
+-- of an encoder whose recorder has just enough space for the plot, and a scratch of one entry, each call is accepted, and together they record the plot's commands
+abbrev pub PlotIsRecorded : Type 0
+PlotIsRecorded = (k : PipelineLayout) → IsPlotted true k → all_made (outcomes (scene idle 0 (empty 340)) (plot_calls 1 0 (plot_pipeline k))) ≡ Some (plot_commands (plot_upload ∷ []) plot_label)

@@ -5,7 +5,7 @@
 ghost use Rattle.std.specs.Prelude.{◌≡◌, true, Some, MatchResult};
 ghost use Rattle.labels.specs.Kept.{units_of};
 ghost use Rattle.runs.specs.Worked.{IsPlotted};
-ghost use Rattle.season_plot.specs.Plot.{plot_label, plot_upload, plot_pipeline};
+ghost use Rattle.season_plot.specs.Plot.{plot_label, plot_upload, plot_pipeline, PlotIsRecorded};
 
 pub mod calls;
 pub mod commands;
@@ -89,3 +89,8 @@ pub fn upload() -> Option<Barrier>
 {
     barrier(&UPLOAD)
 }
+
+// The plot's calls come to the plot's commands: a statement that the check asks for.
+pub fn plot_is_recorded()
+    ensures { PlotIsRecorded }
+{}

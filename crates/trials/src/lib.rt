@@ -3,6 +3,7 @@
 
 #[cfg(test)]
 mod damaged;
+mod encoding;
 #[cfg(test)]
 mod long_lists;
 #[cfg(test)]

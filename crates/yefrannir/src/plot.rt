@@ -21,6 +21,7 @@ use runs::call::Answer;
 use runs::drive::encode;
 use season_plot::calls::{CALLS, calls};
 use season_plot::commands::commands;
+use season_plot::plot_is_recorded;
 use std::alloc::Global;
 
 // The bytes that the plot's records may take.
@@ -156,6 +157,7 @@ pub(crate) fn plot_layout(rt: &impl AllocGlobal) -> Result<PipelineLayout, Failu
 // The embedded plot.
 pub(crate) fn run_plot(rt: &(impl Print + AllocGlobal)) -> Result<(), Failure> {
     records_are_known();
+    plot_is_recorded();
     let layout = plot_layout(rt)?;
     print_layout(rt, &layout)?;
     let pipeline = season_plot::pipeline(layout);
