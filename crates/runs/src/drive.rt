@@ -25,7 +25,7 @@ pub fn drive<R: Recorder>(
 {
     let mut phase = Phase::Idle(Idle::new(recorder, null_target));
     for i in 0..calls.len().min(answers.len()) {
-        let call = calls[i];
+        let call = &calls[i];
         if call.leaves_phase() {
             let (next, answer) = leave(phase, call);
             phase = next;

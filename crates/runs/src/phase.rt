@@ -46,21 +46,21 @@ fn answer_of(outcome: Result<(), Fault>) -> Answer
 }
 
 // A call that begins a list.
-fn leave_idle<R: Recorder>(idle: Idle<R>, call: Call<'_>) -> (Phase<R>, Answer)
-    ensures { (len fill : ℕ) → Does (idle_scene idle.null_target (R.Recorder.meaning idle.recorder)) (call_of len fill call.entry) (told result.1) (phase_scene R.Recorder.meaning result.0) }
+fn leave_idle<R: Recorder>(idle: Idle<R>, call: &Call<'_>) -> (Phase<R>, Answer)
+    ensures { (len fill : ℕ) → Does (idle_scene idle.null_target (R.Recorder.meaning idle.recorder)) (call_of len fill call.now) (told result.1) (phase_scene R.Recorder.meaning result.0) }
 {
-    match call {
+    match *call {
         Call::BeginEncoding => (Phase::Recording(idle.begin_encoding()), Answer::Taken),
         _ => (Phase::Idle(idle), Answer::NotOffered),
     }
 }
 
 // A call that begins a pass or ends a list.
-fn leave_list<R: Recorder>(list: Recording<R>, call: Call<'_>) -> (Phase<R>, Answer)
-    requires { leaves call ≡ true }
-    ensures { (len fill : ℕ) → Does (list_scene list.null_target (R.Recorder.meaning list.recorder)) (call_of len fill call.entry) (told result.1) (phase_scene R.Recorder.meaning result.0) }
+fn leave_list<R: Recorder>(list: Recording<R>, call: &Call<'_>) -> (Phase<R>, Answer)
+    requires { leaves call.now ≡ true }
+    ensures { (len fill : ℕ) → Does (list_scene list.null_target (R.Recorder.meaning list.recorder)) (call_of len fill call.now) (told result.1) (phase_scene R.Recorder.meaning result.0) }
 {
-    match call {
+    match *call {
         Call::EndEncoding => (Phase::Idle(list.end_encoding()), Answer::Taken),
         Call::DiscardEncoding => (Phase::Idle(list.discard_encoding()), Answer::Taken),
         Call::BeginRenderPass {
@@ -81,11 +81,11 @@ fn leave_list<R: Recorder>(list: Recording<R>, call: Call<'_>) -> (Phase<R>, Ans
 }
 
 // A call that ends a render pass.
-fn leave_render<R: Recorder>(pass: RenderPass<R>, call: Call<'_>) -> (Phase<R>, Answer)
-    requires { leaves call ≡ true }
-    ensures { (len fill : ℕ) → Does (pass_scene pass.pass pass.null_target (R.Recorder.meaning pass.recorder)) (call_of len fill call.entry) (told result.1) (phase_scene R.Recorder.meaning result.0) }
+fn leave_render<R: Recorder>(pass: RenderPass<R>, call: &Call<'_>) -> (Phase<R>, Answer)
+    requires { leaves call.now ≡ true }
+    ensures { (len fill : ℕ) → Does (pass_scene pass.pass pass.null_target (R.Recorder.meaning pass.recorder)) (call_of len fill call.now) (told result.1) (phase_scene R.Recorder.meaning result.0) }
 {
-    match call {
+    match *call {
         Call::DiscardEncoding => (Phase::Idle(pass.discard_encoding()), Answer::Taken),
         Call::EndRenderPass => match pass.end_render_pass() {
             Ok(list) => (Phase::Recording(list), Answer::Taken),
@@ -96,11 +96,11 @@ fn leave_render<R: Recorder>(pass: RenderPass<R>, call: Call<'_>) -> (Phase<R>, 
 }
 
 // A call that ends a compute pass.
-fn leave_compute<R: Recorder>(pass: ComputePass<R>, call: Call<'_>) -> (Phase<R>, Answer)
-    requires { leaves call ≡ true }
-    ensures { (len fill : ℕ) → Does (pass_scene pass.pass pass.null_target (R.Recorder.meaning pass.recorder)) (call_of len fill call.entry) (told result.1) (phase_scene R.Recorder.meaning result.0) }
+fn leave_compute<R: Recorder>(pass: ComputePass<R>, call: &Call<'_>) -> (Phase<R>, Answer)
+    requires { leaves call.now ≡ true }
+    ensures { (len fill : ℕ) → Does (pass_scene pass.pass pass.null_target (R.Recorder.meaning pass.recorder)) (call_of len fill call.now) (told result.1) (phase_scene R.Recorder.meaning result.0) }
 {
-    match call {
+    match *call {
         Call::DiscardEncoding => (Phase::Idle(pass.discard_encoding()), Answer::Taken),
         Call::EndComputePass => match pass.end_compute_pass() {
             Ok(list) => (Phase::Recording(list), Answer::Taken),
@@ -111,9 +111,9 @@ fn leave_compute<R: Recorder>(pass: ComputePass<R>, call: Call<'_>) -> (Phase<R>
 }
 
 // A call that leaves its phase where it is taken.
-pub(crate) fn leave<R: Recorder>(phase: Phase<R>, call: Call<'_>) -> (Phase<R>, Answer)
-    requires { leaves call ≡ true }
-    ensures { (len fill : ℕ) → Does (phase_scene R.Recorder.meaning phase) (call_of len fill call.entry) (told result.1) (phase_scene R.Recorder.meaning result.0) }
+pub(crate) fn leave<R: Recorder>(phase: Phase<R>, call: &Call<'_>) -> (Phase<R>, Answer)
+    requires { leaves call.now ≡ true }
+    ensures { (len fill : ℕ) → Does (phase_scene R.Recorder.meaning phase) (call_of len fill call.now) (told result.1) (phase_scene R.Recorder.meaning result.0) }
 {
     match phase {
         Phase::Idle(idle) => leave_idle(idle, call),
@@ -123,13 +123,13 @@ pub(crate) fn leave<R: Recorder>(phase: Phase<R>, call: Call<'_>) -> (Phase<R>, 
     }
 }
 
-fn keep_list<R: Recorder>(list: &mut Recording<R>, scratch: &mut Scratch, call: Call<'_>) -> Answer
-    requires { leaves call ≡ false }
+fn keep_list<R: Recorder>(list: &mut Recording<R>, scratch: &mut Scratch, call: &Call<'_>) -> Answer
+    requires { leaves call.now ≡ false }
     ensures lent { scratch.new.entries.ghost_name ≡ scratch.old.entries.ghost_name }
     ensures kept { Kept scratch.old.mark.fill scratch.new.mark.fill scratch.old.entries.now scratch.new.entries.now }
-    ensures does { Does (list_scene list.old.null_target (R.Recorder.meaning list.old.recorder)) (call_of (length scratch.old.entries.now) scratch.old.mark.fill call.entry) (told result) (list_scene list.new.null_target (R.Recorder.meaning list.new.recorder)) }
+    ensures does { Does (list_scene list.old.null_target (R.Recorder.meaning list.old.recorder)) (call_of (length scratch.old.entries.now) scratch.old.mark.fill call.now) (told result) (list_scene list.new.null_target (R.Recorder.meaning list.new.recorder)) }
 {
-    match call {
+    match *call {
         Call::TransitionBuffers(barriers) => answer_of(list.transition_buffers(scratch, barriers)),
         Call::TransitionTextures(barriers) => answer_of(list.transition_textures(
             scratch, barriers,
@@ -138,11 +138,11 @@ fn keep_list<R: Recorder>(list: &mut Recording<R>, scratch: &mut Scratch, call: 
     }
 }
 
-fn keep_render<R: Recorder>(pass: &mut RenderPass<R>, call: Call<'_>) -> Answer
-    requires { leaves call ≡ false }
-    ensures { (len fill : ℕ) → Does (pass_scene pass.old.pass pass.old.null_target (R.Recorder.meaning pass.old.recorder)) (call_of len fill call.entry) (told result) (pass_scene pass.new.pass pass.new.null_target (R.Recorder.meaning pass.new.recorder)) }
+fn keep_render<R: Recorder>(pass: &mut RenderPass<R>, call: &Call<'_>) -> Answer
+    requires { leaves call.now ≡ false }
+    ensures { (len fill : ℕ) → Does (pass_scene pass.old.pass pass.old.null_target (R.Recorder.meaning pass.old.recorder)) (call_of len fill call.now) (told result) (pass_scene pass.new.pass pass.new.null_target (R.Recorder.meaning pass.new.recorder)) }
 {
-    match call {
+    match *call {
         Call::SetBindGroup {
             layout,
             index,
@@ -178,14 +178,14 @@ fn keep_render<R: Recorder>(pass: &mut RenderPass<R>, call: Call<'_>) -> Answer
 fn keep_compute<R: Recorder>(
     pass: &mut ComputePass<R>,
     scratch: &mut Scratch,
-    call: Call<'_>,
+    call: &Call<'_>,
 ) -> Answer
-    requires { leaves call ≡ false }
+    requires { leaves call.now ≡ false }
     ensures lent { scratch.new.entries.ghost_name ≡ scratch.old.entries.ghost_name }
     ensures kept { Kept scratch.old.mark.fill scratch.new.mark.fill scratch.old.entries.now scratch.new.entries.now }
-    ensures does { Does (pass_scene pass.old.pass pass.old.null_target (R.Recorder.meaning pass.old.recorder)) (call_of (length scratch.old.entries.now) scratch.old.mark.fill call.entry) (told result) (pass_scene pass.new.pass pass.new.null_target (R.Recorder.meaning pass.new.recorder)) }
+    ensures does { Does (pass_scene pass.old.pass pass.old.null_target (R.Recorder.meaning pass.old.recorder)) (call_of (length scratch.old.entries.now) scratch.old.mark.fill call.now) (told result) (pass_scene pass.new.pass pass.new.null_target (R.Recorder.meaning pass.new.recorder)) }
 {
-    match call {
+    match *call {
         Call::SetBindGroup {
             layout,
             index,
@@ -214,12 +214,12 @@ fn keep_compute<R: Recorder>(
 pub(crate) fn keep<R: Recorder>(
     phase: &mut Phase<R>,
     scratch: &mut Scratch,
-    call: Call<'_>,
+    call: &Call<'_>,
 ) -> Answer
-    requires { leaves call ≡ false }
+    requires { leaves call.now ≡ false }
     ensures lent { scratch.new.entries.ghost_name ≡ scratch.old.entries.ghost_name }
     ensures kept { Kept scratch.old.mark.fill scratch.new.mark.fill scratch.old.entries.now scratch.new.entries.now }
-    ensures does { Does (phase_scene R.Recorder.meaning phase.old) (call_of (length scratch.old.entries.now) scratch.old.mark.fill call.entry) (told result) (phase_scene R.Recorder.meaning phase.new) }
+    ensures does { Does (phase_scene R.Recorder.meaning phase.old) (call_of (length scratch.old.entries.now) scratch.old.mark.fill call.now) (told result) (phase_scene R.Recorder.meaning phase.new) }
 {
     match phase {
         Phase::Idle(_) => Answer::NotOffered,
@@ -240,9 +240,9 @@ pub fn offer<R: Recorder>(
     ensures does { Does (phase_scene R.Recorder.meaning phase) (call_of (length scratch.old.entries.now) scratch.old.mark.fill call.entry) (told result.1) (phase_scene R.Recorder.meaning result.0) }
 {
     if call.leaves_phase() {
-        return leave(phase, call);
+        return leave(phase, &call);
     }
     let mut phase = phase;
-    let answer = keep(&mut phase, scratch, call);
+    let answer = keep(&mut phase, scratch, &call);
     (phase, answer)
 }

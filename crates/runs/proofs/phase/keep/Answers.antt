@@ -11,4 +11,4 @@ returns-in-Idle-clause-does g c =
     let len = length a.scratch.now.entries.now in
     let fill = a.scratch.now.mark.fill in
     let m = g.R.Recorder.meaning in
-    does_nothing (phase_scene m a.phase.now) (call_of len fill a.call) _ (ap (λ p. offers (phase_scene m p).stage (call_of len fill a.call)) c.in-Idle.is ∙ away_idle len fill a.call (apart_from c.requires refl)) refl
+    does_nothing (phase_scene m a.phase.now) (call_of len fill a.call.now) _ (ap (λ p. offers (phase_scene m p).stage (call_of len fill a.call.now)) c.in-Idle.is ∙ away_idle len fill a.call.now (apart_from c.requires refl)) refl

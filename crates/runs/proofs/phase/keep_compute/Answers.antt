@@ -14,5 +14,5 @@ returns-in_default g c =
     record {
       lent = refl;
       kept = record { same = refl; long = refl; below = refl };
-      does = does_nothing _ (call_of len fill a.call) _ (away_compute len fill a.call (account a.pass.now.pass) a.pass.now.computes (apart_from k refl) (apart_from k refl) c.in_default.not-SetBindGroup c.in_default.not-SetImmediates c.in_default.not-SetComputePipeline c.in_default.not-DispatchWorkgroups c.in_default.not-DispatchWorkgroupsIndirect c.in_default.not-TransitionBuffers c.in_default.not-TransitionTextures) refl;
+      does = does_nothing _ (call_of len fill a.call.now) _ (away_compute len fill a.call.now (account a.pass.now.pass) a.pass.now.computes (apart_from k refl) (apart_from k refl) c.in_default.not-SetBindGroup c.in_default.not-SetImmediates c.in_default.not-SetComputePipeline c.in_default.not-DispatchWorkgroups c.in_default.not-DispatchWorkgroupsIndirect c.in_default.not-TransitionBuffers c.in_default.not-TransitionTextures) refl;
     }

@@ -13,5 +13,5 @@ returns-in_default g c =
     record {
       lent = refl;
       kept = record { same = refl; long = refl; below = refl };
-      does = does_nothing _ (call_of len fill a.call) _ (away_list len fill a.call (apart_from k refl) (apart_from k refl) c.in_default.not-TransitionBuffers c.in_default.not-TransitionTextures (λ o w h os. apart_from k refl) (λ o. apart_from k refl)) refl;
+      does = does_nothing _ (call_of len fill a.call.now) _ (away_list len fill a.call.now (apart_from k refl) (apart_from k refl) c.in_default.not-TransitionBuffers c.in_default.not-TransitionTextures (λ o w h os. apart_from k refl) (λ o. apart_from k refl)) refl;
     }

@@ -5,4 +5,4 @@ use Rattle.runs.proofs.Away.{away_idle}
 use Rattle.runs.proofs.phase.leave_idle.Goals as goal
 
 pub returns-in_default : goal.returns-in_default
-returns-in_default g c = let a = c.args in λ len fill. does_nothing _ (call_of len fill a.call) _ (away_idle len fill a.call c.in_default.not-BeginEncoding) refl
+returns-in_default g c = let a = c.args in λ len fill. does_nothing _ (call_of len fill a.call.now) _ (away_idle len fill a.call.now c.in_default.not-BeginEncoding) refl

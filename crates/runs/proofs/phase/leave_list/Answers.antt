@@ -8,4 +8,4 @@ pub returns-in_default : goal.returns-in_default
 returns-in_default g c =
     let a = c.args in
     let l = c.requires in
-    λ len fill. does_nothing _ (call_of len fill a.call) _ (away_list len fill a.call c.in_default.not-EndEncoding c.in_default.not-DiscardEncoding (λ bs. apart l refl) (λ bs. apart l refl) c.in_default.not-BeginRenderPass c.in_default.not-BeginComputePass) refl
+    λ len fill. does_nothing _ (call_of len fill a.call.now) _ (away_list len fill a.call.now c.in_default.not-EndEncoding c.in_default.not-DiscardEncoding (λ bs. apart l refl) (λ bs. apart l refl) c.in_default.not-BeginRenderPass c.in_default.not-BeginComputePass) refl
