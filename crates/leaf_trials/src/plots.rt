@@ -14,8 +14,7 @@ use resources::barrier::{BufferBarrier, StateTransition};
 use resources::scratch::{Mark, Scratch};
 use resources::uses::BufferUses;
 use runs::call::{Answer, Call};
-use runs::drive::drive;
-use runs::phase::Phase;
+use runs::drive::encode;
 use std::test::Fail;
 
 // Float patterns.
@@ -134,16 +133,6 @@ fn curve<'a>(first_vertex: u32, _: &'a Parts) -> Call<'a> {
     }
 }
 
-// The recorder of an encoder, in whichever phase it is left.
-fn recorder_of<R: Recorder>(phase: Phase<R>) -> R {
-    match phase {
-        Phase::Idle(idle) => idle.into_recorder(),
-        Phase::Recording(list) => list.end_encoding().into_recorder(),
-        Phase::Render(pass) => pass.discard_encoding().into_recorder(),
-        Phase::Compute(pass) => pass.discard_encoding().into_recorder(),
-    }
-}
-
 // Calls driven over a recorder, with a scratch whose first entry is the host's: the recorder, and the answers.
 pub(crate) fn driven<R: Recorder>(recorder: R, calls: &[Call<'_>]) -> (R, [Answer; MOST_CALLS]) {
     let mut entries = [Barrier {
@@ -158,8 +147,8 @@ pub(crate) fn driven<R: Recorder>(recorder: R, calls: &[Call<'_>]) -> (R, [Answe
         mark: Mark { fill: 1 },
     };
     let mut answers = [Answer::NotOffered; MOST_CALLS];
-    let phase = drive(recorder, 0, &mut scratch, calls, &mut answers);
-    (recorder_of(phase), answers)
+    let recorder = encode(recorder, 0, &mut scratch, calls, &mut answers);
+    (recorder, answers)
 }
 
 // A recorder that is given commands.
