@@ -10,7 +10,6 @@ use board::state::RootSlot;
 use command_list::command::{Barrier, Fixed, Half};
 use command_list::fault::Fault;
 use device::ration::Ration;
-use device::recorder::Recorder;
 use layouts::layout::PipelineLayout;
 use layouts::pipeline::RenderPipeline;
 use list_encode::encode_list;
@@ -44,18 +43,6 @@ fn all_taken(alloc: Global, answers: &[Answer]) -> Result<(), Failure> {
     Ok(())
 }
 
-// The plot's calls, over a recorder.
-fn encode_plot<R: Recorder>(recorder: R, pipeline: &RenderPipeline) -> (R, [Answer; CALLS]) {
-    let mut entries = ENTRIES;
-    let mut scratch = Scratch {
-        entries: &mut entries,
-        mark: Mark { fill: 0 },
-    };
-    let mut answers = [Answer::NotOffered; CALLS];
-    let recorder = encode(recorder, 0, &mut scratch, &calls(pipeline), &mut answers);
-    (recorder, answers)
-}
-
 // The plot as list bytes.
 pub(crate) fn plot_list<'a>(
     alloc: Global,
@@ -77,8 +64,14 @@ pub(crate) fn plot_list<'a>(
 
 // A board that was given the plot, under an allowance.
 fn plot_board(alloc: Global, pipeline: &RenderPipeline) -> Result<Board, Failure> {
+    let mut entries = ENTRIES;
+    let mut scratch = Scratch {
+        entries: &mut entries,
+        mark: Mark { fill: 0 },
+    };
+    let mut answers = [Answer::NotOffered; CALLS];
     let ration = Ration::new(Board::new(ALLOWANCE), ALLOWANCE);
-    let (ration, answers) = encode_plot(ration, pipeline);
+    let ration = encode(ration, 0, &mut scratch, &calls(pipeline), &mut answers);
     all_taken(alloc, &answers)?;
     Ok(ration.into_below())
 }
@@ -96,8 +89,9 @@ fn bytes_agree(list: &[u8]) -> Result<bool, Fault> {
 }
 
 // The first sample of the latest curve, as the board's special constants have it, and as its draw has it.
-fn first_samples(board: &Board, slot: u8) -> Option<(u32, u32)> {
-    let RootSlot::Words(words) = board.slot(Half::Graphics, slot) else {
+fn first_samples(board: &Board, layout: &PipelineLayout) -> Option<(u32, u32)> {
+    let slot = layout.special()?.root_index;
+    let RootSlot::Words(words) = board.slot(Half::Graphics, slot as u8) else {
         return None;
     };
     let Fixed::DrawInstanced { first_vertex, .. } = board.latest()? else {
@@ -122,7 +116,7 @@ fn play_plot(
         return Err(Failure::OtherSignature);
     }
     println!(rt; "the board's root signature is the layout's")?;
-    match first_samples(&board, 2) {
+    match first_samples(&board, &pipeline.layout) {
         Some((held, drawn)) if held == drawn => {
             println!(rt; "the next curve begins at sample {drawn}: the board and the draw agree")?;
             Ok(())
