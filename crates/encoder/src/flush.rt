@@ -24,7 +24,8 @@ const ADDRESS_BYTES: usize = 12;
 
 const VERTEX_BYTES: usize = 20;
 
-// A command whose space is known.
+// A command whose space is known. Inlined, for the writer's sake.
+#[inline(always)]
 pub(crate) fn put<R: Recorder, C: Recordable>(recorder: &mut R, command: C) -> Result<(), Fault>
     requires ranged { readable (C.says command) ≡ true }
     requires fits { size (C.says command) ≤ (R.Recorder.meaning recorder.old).space }

@@ -77,6 +77,8 @@ impl<'a> Recorder for ListBytes<'a> {
         }
     }
 
+    // Inlined, for the writer's sake.
+    #[inline(always)]
     fn record<C: Recordable>(&mut self, command: C) -> Result<(), Fault> {
         self.len = command.append_to(self.bytes, self.len)?;
         Ok(())

@@ -78,6 +78,7 @@ impl RootState {
         ensures { result ≡ is_current signature self.now.layout }
     {
         self.layout
+            .as_ref()
             .is_some_and(|layout| signature == layout.signature())
     }
 
@@ -85,8 +86,8 @@ impl RootState {
     pub(crate) fn check_layout(&self, layout: &PipelineLayout) -> Result<(), Fault>
         ensures { fault_of result ≡ asks_layout layout.now self.now.layout }
     {
-        let agrees = self.layout.is_none_or(|current| {
-            layout.signature() != current.signature() || *layout == current
+        let agrees = self.layout.as_ref().is_none_or(|current| {
+            layout.signature() != current.signature() || *layout == *current
         });
         if agrees {
             Ok(())
@@ -171,14 +172,14 @@ impl RootState {
     fn special_slot(&self) -> Option<u32>
         ensures { result ≡ current_special self.now.layout }
     {
-        Some(self.layout?.special()?.root_index)
+        Some(self.layout.as_ref()?.special()?.root_index)
     }
 
     // The special slot of an own indirect signature of the current layout.
     pub(crate) fn own_slot(&self) -> Option<u8>
         ensures { result ≡ own_slot self.now.layout }
     {
-        let special = self.layout?.special()?;
+        let special = self.layout.as_ref()?.special()?;
         special.own_signature.then_some(special.root_index as u8)
     }
 
@@ -251,6 +252,7 @@ impl RootState {
         ensures few { result ≤ 32 }
     {
         self.layout
+            .as_ref()
             .and_then(|layout| layout.immediates())
             .map_or(0, |info| info.size)
     }

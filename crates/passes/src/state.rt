@@ -181,13 +181,13 @@ impl PassState {
     pub fn check_draw(&self) -> Result<(), Fault>
         ensures { fault_of result ≡ drawable (option_map pipeline_of self.now.pipeline) self.now.roots.layout (bound_of self.now.roots).elements }
     {
-        let (Some(pipeline), Some(layout)) = (self.pipeline, self.roots.layout) else {
+        let (Some(pipeline), Some(layout)) = (self.pipeline, self.roots.layout.as_ref()) else {
             return Err(Number::Pipeline.at(0));
         };
         if pipeline.signature != layout.signature() {
             return Err(Number::Pipeline.at(0));
         }
-        self.roots.check_elements(&layout)
+        self.roots.check_elements(layout)
     }
 
     // The special slot of an own indirect signature of the current layout.
