@@ -12,7 +12,7 @@ use Rattle.scripts.specs.declared.line.LayoutParts.{LayoutParts}
 use Rattle.scripts.specs.declared.line.RenderParts.{RenderParts}
 use Rattle.scripts.specs.declared.line.ComputeParts.{ComputeParts}
 use Rattle.scripts.specs.declared.not_done.NotDone.{NotDone}
-use Rattle.scripts.specs.declared.not_done.NotDone.TheVariants.{Refused}
+use Rattle.scripts.specs.declared.not_done.NotDone.TheVariants.{BadLine, Unknown, NotOffered, Refused, Memory}
 
 -- the name stands for the value now, and each other name for what it stood for before
 abbrev pub Defines : {X Y : Type 0} → List ℕ → X → BTreeMap (String Y) X → BTreeMap (String Y) X → Type 0
@@ -39,6 +39,14 @@ Keeps old new = (q : List ℕ) → get_by_text new q ≡ get_by_text old q
 abbrev pub told : NotDone → Option ℕ
 told (Refused f) = Some (number_of f.number)
 told _ = None
+
+-- a name that stands for nothing is told as unknown, unless no memory is left to tell it
+abbrev pub Unfound : {X Y : Type 0} → BTreeMap (String Y) X → List ℕ → NotDone → Type 0
+Unfound named name BadLine = ⊥
+Unfound named name (Unknown s) = (string_bytes s ≡ name) × (get_by_text named name ≡ None)
+Unfound named name NotOffered = ⊥
+Unfound named name (Refused f) = ⊥
+Unfound named name (Memory e) = Unit {0}
 
 -- the number with which the parts are refused, if they are
 abbrev pub verdict_of : LayoutParts → Option ℕ

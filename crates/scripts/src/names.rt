@@ -1,6 +1,7 @@
 // The layouts and pipelines that a script has defined so far, by their names.
-ghost use Rattle.std.specs.Prelude.{◌≡◌, Some, None, MatchResult, OnOk, OnErr, IfOk, string_bytes};
+ghost use Rattle.std.specs.Prelude.{◌≡◌, Some, None, MatchResult, OnOk, OnErr, IfErr, string_bytes};
 ghost use Rattle.std.specs.BTreeMap.{get_by_text, IsEmpty};
+ghost use Rattle.scripts.specs.Naming.{Unfound};
 
 use crate::line::{ComputeParts, LayoutParts, RenderParts};
 use crate::not_done::NotDone;
@@ -20,7 +21,7 @@ pub struct Names {
 
 // What a name stands for, if it is defined.
 fn named<T: Copy>(alloc: Global, defined: &BTreeMap<String, T>, name: &str) -> Result<T, NotDone>
-    ensures { MatchResult result (λ v. get_by_text defined.now name.now ≡ Some v) (λ _. get_by_text defined.now name.now ≡ None) }
+    ensures { MatchResult result (λ v. get_by_text defined.now name.now ≡ Some v) (λ e. (get_by_text defined.now name.now ≡ None) × Unfound defined.now name.now e) }
 {
     match defined.get(name) {
         Some(value) => Ok(*value),
@@ -44,19 +45,19 @@ impl Names {
     }
 
     pub fn layout(&self, name: &str) -> Result<PipelineLayout, NotDone>
-        ensures { MatchResult result (λ l. get_by_text self.now.layouts name.now ≡ Some l) (λ _. get_by_text self.now.layouts name.now ≡ None) }
+        ensures { MatchResult result (λ l. get_by_text self.now.layouts name.now ≡ Some l) (λ e. (get_by_text self.now.layouts name.now ≡ None) × Unfound self.now.layouts name.now e) }
     {
         named(self.alloc, &self.layouts, name)
     }
 
     pub fn render_pipeline(&self, name: &str) -> Result<RenderPipeline, NotDone>
-        ensures { MatchResult result (λ p. get_by_text self.now.render_pipelines name.now ≡ Some p) (λ _. get_by_text self.now.render_pipelines name.now ≡ None) }
+        ensures { MatchResult result (λ p. get_by_text self.now.render_pipelines name.now ≡ Some p) (λ e. (get_by_text self.now.render_pipelines name.now ≡ None) × Unfound self.now.render_pipelines name.now e) }
     {
         named(self.alloc, &self.render_pipelines, name)
     }
 
     pub fn compute_pipeline(&self, name: &str) -> Result<ComputePipeline, NotDone>
-        ensures { MatchResult result (λ p. get_by_text self.now.compute_pipelines name.now ≡ Some p) (λ _. get_by_text self.now.compute_pipelines name.now ≡ None) }
+        ensures { MatchResult result (λ p. get_by_text self.now.compute_pipelines name.now ≡ Some p) (λ e. (get_by_text self.now.compute_pipelines name.now ≡ None) × Unfound self.now.compute_pipelines name.now e) }
     {
         named(self.alloc, &self.compute_pipelines, name)
     }
@@ -85,6 +86,7 @@ impl Names {
         parts: &RenderParts,
     ) -> Result<(), NotDone>
         ensures kept { OnErr result (Keeps self.old.render_pipelines self.new.render_pipelines) }
+        ensures refused { IfErr result (Unfound self.old.layouts (string_bytes parts.now.layout)) }
         ensures defined { OnOk result (DefinesRenderPipeline (string_bytes name) parts.now self.old.layouts self.old.render_pipelines self.new.render_pipelines) }
     {
         let pipeline = RenderPipeline {
@@ -104,6 +106,7 @@ impl Names {
         parts: &ComputeParts,
     ) -> Result<(), NotDone>
         ensures kept { OnErr result (Keeps self.old.compute_pipelines self.new.compute_pipelines) }
+        ensures refused { IfErr result (Unfound self.old.layouts (string_bytes parts.now.layout)) }
         ensures defined { OnOk result (DefinesComputePipeline (string_bytes name) parts.now self.old.layouts self.old.compute_pipelines self.new.compute_pipelines) }
     {
         let pipeline = ComputePipeline {

@@ -21,6 +21,11 @@ pub enum NotDone {
 
 // What is printed below the line.
 impl fmt::Display for NotDone {
+    ghost use Rattle.std.specs.Prelude.{Some};
+    ghost use Rattle.scripts.specs.Telling.{printed};
+
+    ghost output = { λ error. Some (printed error) };
+
     fn fmt<W: fmt::Write>(&self, f: &mut fmt::Formatter<W>) -> fmt::Result {
         match self {
             NotDone::BadLine => f.write_str("bad line"),
@@ -30,7 +35,7 @@ impl fmt::Display for NotDone {
                 let number = u8::from(*number);
                 write!(f, "refused {number} {place}")
             }
-            NotDone::Memory(error) => write!(f, "{error}"),
+            NotDone::Memory(_) => f.write_str("memory allocation failed"),
         }
     }
 }
@@ -63,6 +68,10 @@ impl<T: Drop> From<AllocFailed<T>> for NotDone {
 
 // Bytes in hex: what is no hex makes a bad line.
 impl From<FromHexError> for NotDone {
+    ghost use Rattle.scripts.specs.Telling.{no_hex};
+
+    ghost from_gives = { λ error r. r ≡ no_hex error };
+
     fn from(error: FromHexError) -> NotDone {
         match error {
             FromHexError::OutOfMemory => NotDone::Memory(AllocError),
