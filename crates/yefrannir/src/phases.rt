@@ -1,5 +1,7 @@
-// What is asked of an encoder in whichever phase it is: its list, and what an answer of it says.
+// What is asked of an encoder in whichever phase it is: its list, the record of its pass, and what an
+// answer of it says.
 use list_bytes::ListBytes;
+use passes::state::PassState;
 use runs::call::Answer;
 use runs::phase::Phase;
 use scripts::not_done::NotDone;
@@ -22,6 +24,15 @@ pub(crate) fn written<R: Readable>(phase: &Phase<R>) -> &[u8] {
         Phase::Recording(list) => list.recorder().written(),
         Phase::Render(pass) => pass.recorder().written(),
         Phase::Compute(pass) => pass.recorder().written(),
+    }
+}
+
+// The record of the pass that an encoder is in.
+pub(crate) fn pass_record<R>(phase: &Phase<R>) -> Option<PassState> {
+    match phase {
+        Phase::Idle(_) | Phase::Recording(_) => None,
+        Phase::Render(pass) => Some(*pass.pass()),
+        Phase::Compute(pass) => Some(*pass.pass()),
     }
 }
 

@@ -4,7 +4,7 @@ ghost use Rattle.std.specs.Prelude.{◌≤◌, length, IfOk};
 use crate::failure::Failure;
 use crate::meant::{Found, meant};
 use crate::named::Named;
-use crate::phases::{Readable, outcome, written};
+use crate::phases::{Readable, outcome, pass_record, written};
 use command_list::command::{Barrier, BarrierType, Half};
 use command_list::reader::MOST_BYTES;
 use device::recorder::Recorder;
@@ -135,11 +135,13 @@ impl Session {
         Ok(())
     }
 
-    // Tells what became of a line: its records, or why it was not done, and the record of the pass.
+    // Tells what became of a line: its records, or why it was not done, and the record of the pass. Of a pass that the
+    // line gave up, that is as it was left.
     fn tell<R: Readable>(
         &mut self,
         phase: &Phase<R>,
         before: usize,
+        left: Option<PassState>,
         done: Result<(), NotDone>,
     ) -> Result<(), Failure> {
         match done {
@@ -150,13 +152,11 @@ impl Session {
         if !self.with_pass {
             return Ok(());
         }
-        match phase {
-            Phase::Render(pass) => self.tell_pass(pass.pass()),
-            Phase::Compute(pass) => self.tell_pass(pass.pass()),
-            Phase::Idle(_) | Phase::Recording(_) => {
-                self.tell_pass(&PassState::new(Half::Graphics, false))
-            }
-        }
+        let pass = match phase {
+            Phase::Idle(_) => left,
+            _ => pass_record(phase),
+        };
+        self.tell_pass(&pass.unwrap_or(PassState::new(Half::Graphics, false)))
     }
 
     // Does a line, and tells what became of it.
@@ -166,6 +166,7 @@ impl Session {
         line: &str,
     ) -> (Phase<R>, Result<(), Failure>) {
         let before = written(&phase).len();
+        let left = pass_record(&phase);
         let (phase, done) = match read(self.alloc, line) {
             Ok(Line::Call(call)) => self.make(phase, &call),
             Ok(line) => (phase, self.define(line)),
@@ -174,7 +175,7 @@ impl Session {
         if let Err(error) = writeln!(self.told, "> {line}") {
             return (phase, Err(Failure::Memory(error)));
         }
-        let told = self.tell(&phase, before, done);
+        let told = self.tell(&phase, before, left, done);
         (phase, told)
     }
 
