@@ -75,13 +75,13 @@ fn in_340_bytes_its_end_is_refused(rt: HostRuntime) -> Result<(), Fail> {
 }
 
 #[test]
-fn a_list_needs_1_to_65536_bytes(rt: HostRuntime) -> Result<(), Fail> {
-    let mut none = [0u8; 0];
-    assert!(rt; encoded(&mut none).map(|_| ()) == Err(FULL));
+fn a_list_needs_2_to_65536_bytes(rt: HostRuntime) -> Result<(), Fail> {
+    let mut one = [0u8; 1];
+    assert!(rt; encoded(&mut one).map(|_| ()) == Err(FULL));
     let mut many = [0u8; 65537];
     assert!(rt; encoded(&mut many).map(|_| ()) == Err(FULL));
-    let mut one = [0u8; 1];
-    let (list, answers) = encoded(&mut one)?;
+    let mut two = [0u8; 2];
+    let (list, answers) = encoded(&mut two)?;
     assert!(rt; list == [1].as_slice());
     assert!(rt; matches!(answers[0], Answer::Taken));
     assert!(rt;
