@@ -16,7 +16,7 @@ pub struct Ration<R> {
 impl<R: Recorder> Ration<R> {
     // An allowance over a recorder, which is started anew.
     pub fn new(mut below: R, most: usize) -> Ration<R>
-        ensures { Anew (rationed most most (R.Recorder.meaning below)) (rationed result.rest result.most (R.Recorder.meaning result.below)) }
+        ensures { Anew (rationed most most (R.meaning below)) (rationed result.rest result.most (R.meaning result.below)) }
     {
         below.start_anew();
         Ration {
@@ -40,7 +40,7 @@ impl<R: Recorder> Ration<R> {
 }
 
 impl<R: Recorder> Recorder for Ration<R> {
-    ghost meaning = { λ s. rationed s.rest s.most (R.Recorder.meaning s.below) };
+    ghost meaning = { λ s. rationed s.rest s.most (R.meaning s.below) };
 
     fn space(&self) -> usize {
         self.rest.min(self.below.space())

@@ -16,7 +16,7 @@ pub fn set_pipeline<R: Recorder>(
     signature: u32,
     pipeline: u32,
 ) -> Result<(), Fault>
-    ensures { Together (R.Recorder.meaning recorder.old) (SetRootSignature Graphics signature ∷ SetPipelineState pipeline ∷ []) result (R.Recorder.meaning recorder.new) }
+    ensures { Together (R.meaning recorder.old) (SetRootSignature Graphics signature ∷ SetPipelineState pipeline ∷ []) result (R.meaning recorder.new) }
 {
     if recorder.space() < PIPELINE_BYTES {
         return Err(FULL);

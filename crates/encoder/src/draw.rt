@@ -30,7 +30,7 @@ pub(crate) fn record_draw<R: Recorder>(
     requires ranged { readable (fixed_command command) ≡ true }
     requires sized { bytes ≡ size (fixed_command command) }
     requires small { bytes ≤ 100 }
-    ensures { Handled (drawable (account pass.old).pipeline (account pass.old).roots.layout (account pass.old).roots.elements) (flushed (account pass.old).half (prepared_by own (account pass.old).roots) (account pass.old).vertices ++ (fixed_command command ∷ [])) (marked own (with_roots (prepared_by own (account pass.old).roots) (account pass.old))) (account pass.old) (R.Recorder.meaning recorder.old) result (account pass.new) (R.Recorder.meaning recorder.new) }
+    ensures { Handled (drawable (account pass.old).pipeline (account pass.old).roots.layout (account pass.old).roots.elements) (flushed (account pass.old).half (prepared_by own (account pass.old).roots) (account pass.old).vertices ++ (fixed_command command ∷ [])) (marked own (with_roots (prepared_by own (account pass.old).roots) (account pass.old))) (account pass.old) (R.meaning recorder.old) result (account pass.new) (R.meaning recorder.new) }
 {
     pass.check_draw()?;
     let replaced = pass.prepare(own);

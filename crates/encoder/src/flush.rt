@@ -28,8 +28,8 @@ const VERTEX_BYTES: usize = 20;
 #[inline(always)]
 pub(crate) fn put<R: Recorder, C: Recordable>(recorder: &mut R, command: C) -> Result<(), Fault>
     requires ranged { readable (C.says command) ≡ true }
-    requires fits { size (C.says command) ≤ (R.Recorder.meaning recorder.old).space }
-    ensures { Put (R.Recorder.meaning recorder.old) (C.says command ∷ []) result (R.Recorder.meaning recorder.new) }
+    requires fits { size (C.says command) ≤ (R.meaning recorder.old).space }
+    ensures { Put (R.meaning recorder.old) (C.says command ∷ []) result (R.meaning recorder.new) }
 {
     recorder.record(command)
 }
@@ -43,8 +43,8 @@ fn put_words<R: Recorder>(
 ) -> Result<(), Fault>
     requires within { slot < 64 }
     requires few { length words.now ≤ 64 }
-    requires fits { sizes (word_commands half slot 0 words.now) ≤ (R.Recorder.meaning recorder.old).space }
-    ensures { Put (R.Recorder.meaning recorder.old) (word_commands half slot 0 words.now) result (R.Recorder.meaning recorder.new) }
+    requires fits { sizes (word_commands half slot 0 words.now) ≤ (R.meaning recorder.old).space }
+    ensures { Put (R.meaning recorder.old) (word_commands half slot 0 words.now) result (R.meaning recorder.new) }
 {
     for w in 0..words.len() {
         put(
@@ -75,8 +75,8 @@ trait Table {
 
     fn write<R: Recorder>(&self, recorder: &mut R, slot: u32) -> Result<(), Fault>
         requires within { slot < places }
-        requires fits { sizes (commands self.now slot) ≤ (R.Recorder.meaning recorder.old).space }
-        ensures { Put (R.Recorder.meaning recorder.old) (commands self.now slot) result (R.Recorder.meaning recorder.new) };
+        requires fits { sizes (commands self.now slot) ≤ (R.meaning recorder.old).space }
+        ensures { Put (R.meaning recorder.old) (commands self.now slot) result (R.meaning recorder.new) };
 }
 
 impl Table for VertexState {
@@ -187,8 +187,8 @@ fn flush_size<T: Table>(table: &T, dirty: u64) -> usize
 // The touched slots are written, lowest first.
 fn flush<R: Recorder, T: Table>(recorder: &mut R, table: &T, dirty: u64) -> Result<(), Fault>
     requires within { (k : ℕ) → bit dirty k ≡ true → k < T.Table.places }
-    requires fits { sizes (gathered (bit dirty) (T.Table.commands table.now) 0 64) ≤ (R.Recorder.meaning recorder.old).space }
-    ensures { Put (R.Recorder.meaning recorder.old) (gathered (bit dirty) (T.Table.commands table.now) 0 64) result (R.Recorder.meaning recorder.new) }
+    requires fits { sizes (gathered (bit dirty) (T.Table.commands table.now) 0 64) ≤ (R.meaning recorder.old).space }
+    ensures { Put (R.meaning recorder.old) (gathered (bit dirty) (T.Table.commands table.now) 0 64) result (R.meaning recorder.new) }
 {
     let mut rest = dirty;
     while rest != 0 {
@@ -217,8 +217,8 @@ pub(crate) fn pass_size(pass: &PassState) -> usize
 
 // The touched slots of a pass are written: vertex slots, then root slots.
 pub(crate) fn flush_pass<R: Recorder>(recorder: &mut R, pass: &PassState) -> Result<(), Fault>
-    requires { sizes (flushed pass.now.kind (bound_of pass.now.roots) (views_of pass.now.vertices)) ≤ (R.Recorder.meaning recorder.old).space }
-    ensures { Put (R.Recorder.meaning recorder.old) (flushed pass.now.kind (bound_of pass.now.roots) (views_of pass.now.vertices)) result (R.Recorder.meaning recorder.new) }
+    requires { sizes (flushed pass.now.kind (bound_of pass.now.roots) (views_of pass.now.vertices)) ≤ (R.meaning recorder.old).space }
+    ensures { Put (R.meaning recorder.old) (flushed pass.now.kind (bound_of pass.now.roots) (views_of pass.now.vertices)) result (R.meaning recorder.new) }
 {
     flush(
         recorder,

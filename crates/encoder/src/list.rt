@@ -33,7 +33,7 @@ impl<R: Recorder> Idle<R> {
 
     // A list is begun: the recorder starts anew.
     pub fn begin_encoding(self) -> Recording<R>
-        ensures { Does (idle_scene self.null_target (R.Recorder.meaning self.recorder)) begin_encoding taken (list_scene result.null_target (R.Recorder.meaning result.recorder)) }
+        ensures { Does (idle_scene self.null_target (R.meaning self.recorder)) begin_encoding taken (list_scene result.null_target (R.meaning result.recorder)) }
     {
         let Idle {
             mut recorder,
@@ -66,7 +66,7 @@ impl<R: Recorder> Recording<R> {
     ) -> Result<(), Fault>
         ensures lent { scratch.new.entries.ghost_name ≡ scratch.old.entries.ghost_name }
         ensures kept { Kept scratch.old.mark.fill scratch.new.mark.fill scratch.old.entries.now scratch.new.entries.now }
-        ensures does { Does (list_scene self.old.null_target (R.Recorder.meaning self.old.recorder)) (quiet (transition_call (changes_of (λ u. buffer u.bits) barriers.now) (length scratch.old.entries.now) scratch.old.mark.fill)) (answered result) (list_scene self.new.null_target (R.Recorder.meaning self.new.recorder)) }
+        ensures does { Does (list_scene self.old.null_target (R.meaning self.old.recorder)) (quiet (transition_call (changes_of (λ u. buffer u.bits) barriers.now) (length scratch.old.entries.now) scratch.old.mark.fill)) (answered result) (list_scene self.new.null_target (R.meaning self.new.recorder)) }
     {
         transition(&mut self.recorder, scratch, barriers)
     }
@@ -78,14 +78,14 @@ impl<R: Recorder> Recording<R> {
     ) -> Result<(), Fault>
         ensures lent { scratch.new.entries.ghost_name ≡ scratch.old.entries.ghost_name }
         ensures kept { Kept scratch.old.mark.fill scratch.new.mark.fill scratch.old.entries.now scratch.new.entries.now }
-        ensures does { Does (list_scene self.old.null_target (R.Recorder.meaning self.old.recorder)) (quiet (transition_call (changes_of (λ u. texture u.bits) barriers.now) (length scratch.old.entries.now) scratch.old.mark.fill)) (answered result) (list_scene self.new.null_target (R.Recorder.meaning self.new.recorder)) }
+        ensures does { Does (list_scene self.old.null_target (R.meaning self.old.recorder)) (quiet (transition_call (changes_of (λ u. texture u.bits) barriers.now) (length scratch.old.entries.now) scratch.old.mark.fill)) (answered result) (list_scene self.new.null_target (R.meaning self.new.recorder)) }
     {
         transition(&mut self.recorder, scratch, barriers)
     }
 
     // The list is whole.
     pub fn end_encoding(self) -> Idle<R>
-        ensures { Does (list_scene self.null_target (R.Recorder.meaning self.recorder)) end_encoding taken (idle_scene result.null_target (R.Recorder.meaning result.recorder)) }
+        ensures { Does (list_scene self.null_target (R.meaning self.recorder)) end_encoding taken (idle_scene result.null_target (R.meaning result.recorder)) }
     {
         let Recording {
             recorder,
@@ -99,7 +99,7 @@ impl<R: Recorder> Recording<R> {
 
     // The list is given up: what stands in the recorder is of no use.
     pub fn discard_encoding(self) -> Idle<R>
-        ensures { Does (list_scene self.null_target (R.Recorder.meaning self.recorder)) discard_encoding taken (idle_scene result.null_target (R.Recorder.meaning result.recorder)) }
+        ensures { Does (list_scene self.null_target (R.meaning self.recorder)) discard_encoding taken (idle_scene result.null_target (R.meaning result.recorder)) }
     {
         let Recording {
             recorder,
@@ -120,7 +120,7 @@ impl<R: Recorder> Recording<R> {
         height: u32,
         attachments: &[Option<ColorAttachment>],
     ) -> Result<RenderPass<R>, Refusal<Recording<R>>>
-        ensures { MatchResult result (λ p. Does (list_scene self.null_target (R.Recorder.meaning self.recorder)) (opening (render_pass (option_map (λ b. b.now) label.entry) width height attachments.now)) taken (pass_scene p.pass p.null_target (R.Recorder.meaning p.recorder))) (λ e. Does (list_scene self.null_target (R.Recorder.meaning self.recorder)) (opening (render_pass (option_map (λ b. b.now) label.entry) width height attachments.now)) (refused e.fault) (list_scene e.phase.null_target (R.Recorder.meaning e.phase.recorder))) }
+        ensures { MatchResult result (λ p. Does (list_scene self.null_target (R.meaning self.recorder)) (opening (render_pass (option_map (λ b. b.now) label.entry) width height attachments.now)) taken (pass_scene p.pass p.null_target (R.meaning p.recorder))) (λ e. Does (list_scene self.null_target (R.meaning self.recorder)) (opening (render_pass (option_map (λ b. b.now) label.entry) width height attachments.now)) (refused e.fault) (list_scene e.phase.null_target (R.meaning e.phase.recorder))) }
     {
         let Recording {
             mut recorder,
@@ -153,7 +153,7 @@ impl<R: Recorder> Recording<R> {
         self,
         label: Option<&[u8]>,
     ) -> Result<ComputePass<R>, Refusal<Recording<R>>>
-        ensures { MatchResult result (λ p. Does (list_scene self.null_target (R.Recorder.meaning self.recorder)) (opening (compute_pass (option_map (λ b. b.now) label.entry))) taken (pass_scene p.pass p.null_target (R.Recorder.meaning p.recorder))) (λ e. Does (list_scene self.null_target (R.Recorder.meaning self.recorder)) (opening (compute_pass (option_map (λ b. b.now) label.entry))) (refused e.fault) (list_scene e.phase.null_target (R.Recorder.meaning e.phase.recorder))) }
+        ensures { MatchResult result (λ p. Does (list_scene self.null_target (R.meaning self.recorder)) (opening (compute_pass (option_map (λ b. b.now) label.entry))) taken (pass_scene p.pass p.null_target (R.meaning p.recorder))) (λ e. Does (list_scene self.null_target (R.meaning self.recorder)) (opening (compute_pass (option_map (λ b. b.now) label.entry))) (refused e.fault) (list_scene e.phase.null_target (R.meaning e.phase.recorder))) }
     {
         let Recording {
             mut recorder,

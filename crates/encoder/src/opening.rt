@@ -56,8 +56,8 @@ fn put_targets<R: Recorder>(
     attachments: &[Option<ColorAttachment>],
 ) -> Result<(), Fault>
     requires few { length attachments.now ≤ 8 }
-    requires fits { size (OMSetRenderTargets (map (target_of null_target) attachments.now)) ≤ (R.Recorder.meaning recorder.old).space }
-    ensures { Put (R.Recorder.meaning recorder.old) (OMSetRenderTargets (map (target_of null_target) attachments.now) ∷ []) result (R.Recorder.meaning recorder.new) }
+    requires fits { size (OMSetRenderTargets (map (target_of null_target) attachments.now)) ≤ (R.meaning recorder.old).space }
+    ensures { Put (R.meaning recorder.old) (OMSetRenderTargets (map (target_of null_target) attachments.now) ∷ []) result (R.meaning recorder.new) }
 {
     let mut targets = [0; MAX_COLOR_ATTACHMENTS];
     for place in 0..attachments.len() {
@@ -81,8 +81,8 @@ fn put_clear<R: Recorder>(
     recorder: &mut R,
     attachment: &Option<ColorAttachment>,
 ) -> Result<(), Fault>
-    requires { sizes (clear_records (attachment.now ∷ [])) ≤ (R.Recorder.meaning recorder.old).space }
-    ensures { Put (R.Recorder.meaning recorder.old) (clear_records (attachment.now ∷ [])) result (R.Recorder.meaning recorder.new) }
+    requires { sizes (clear_records (attachment.now ∷ [])) ≤ (R.meaning recorder.old).space }
+    ensures { Put (R.meaning recorder.old) (clear_records (attachment.now ∷ [])) result (R.meaning recorder.new) }
 {
     match *attachment {
         Some(a) if is_cleared(&a) => put(
@@ -125,8 +125,8 @@ fn put_clears<R: Recorder>(
     recorder: &mut R,
     attachments: &[Option<ColorAttachment>],
 ) -> Result<(), Fault>
-    requires { sizes (clear_records attachments.now) ≤ (R.Recorder.meaning recorder.old).space }
-    ensures { Put (R.Recorder.meaning recorder.old) (clear_records attachments.now) result (R.Recorder.meaning recorder.new) }
+    requires { sizes (clear_records attachments.now) ≤ (R.meaning recorder.old).space }
+    ensures { Put (R.meaning recorder.old) (clear_records attachments.now) result (R.meaning recorder.new) }
 {
     for place in 0..attachments.len() {
         put_clear(recorder, &attachments[place])?;
@@ -149,8 +149,8 @@ fn event_size(units: &[u16]) -> usize
 
 fn put_event<R: Recorder>(recorder: &mut R, units: &[u16]) -> Result<(), Fault>
     requires begins { CanBegin units.now }
-    requires fits { sizes (event_records units.now) ≤ (R.Recorder.meaning recorder.old).space }
-    ensures { Put (R.Recorder.meaning recorder.old) (event_records units.now) result (R.Recorder.meaning recorder.new) }
+    requires fits { sizes (event_records units.now) ≤ (R.meaning recorder.old).space }
+    ensures { Put (R.meaning recorder.old) (event_records units.now) result (R.meaning recorder.new) }
 {
     if units.is_empty() {
         return Ok(());
@@ -168,7 +168,7 @@ fn record_render<R: Recorder>(
 ) -> Result<(), Fault>
     requires begins { CanBegin units.now }
     requires few { length attachments.now ≤ 8 }
-    ensures { Offered (fault_at number.Absent (no_target 0 null_target attachments.now)) (event_records units.now ++ frame_records null_target extent.width extent.height attachments.now) (R.Recorder.meaning recorder.old) result (R.Recorder.meaning recorder.new) }
+    ensures { Offered (fault_at number.Absent (no_target 0 null_target attachments.now)) (event_records units.now ++ frame_records null_target extent.width extent.height attachments.now) (R.meaning recorder.old) result (R.meaning recorder.new) }
 {
     check_targets(null_target, attachments)?;
     let targets_size = TARGETS_BYTES + TARGET_BYTES * attachments.len();
@@ -195,7 +195,7 @@ fn record_render<R: Recorder>(
 // A compute pass's label and heaps.
 fn record_compute<R: Recorder>(recorder: &mut R, units: &[u16]) -> Result<(), Fault>
     requires { CanBegin units.now }
-    ensures { Offered None (event_records units.now ++ (SetDescriptorHeaps true ∷ [])) (R.Recorder.meaning recorder.old) result (R.Recorder.meaning recorder.new) }
+    ensures { Offered None (event_records units.now ++ (SetDescriptorHeaps true ∷ [])) (R.meaning recorder.old) result (R.meaning recorder.new) }
 {
     if recorder.space() < event_size(units) + HEAPS_BYTES {
         return Err(FULL);
@@ -206,7 +206,7 @@ fn record_compute<R: Recorder>(recorder: &mut R, units: &[u16]) -> Result<(), Fa
 
 // The end of a pass: heaps off, and the end of its label's event.
 pub(crate) fn record_ending<R: Recorder>(recorder: &mut R, labelled: bool) -> Result<(), Fault>
-    ensures { Offered None (ending_records labelled) (R.Recorder.meaning recorder.old) result (R.Recorder.meaning recorder.new) }
+    ensures { Offered None (ending_records labelled) (R.meaning recorder.old) result (R.meaning recorder.new) }
 {
     let event_bytes = if labelled { EVENT_END_BYTES } else { 0 };
     if recorder.space() < HEAPS_BYTES + event_bytes {
@@ -228,7 +228,7 @@ pub(crate) fn open_render<R: Recorder>(
     height: u32,
     attachments: &[Option<ColorAttachment>],
 ) -> Result<(), Fault>
-    ensures { Offered (asks_opening null_target (render_pass (option_map (λ b. b.now) label.entry) width height attachments.now)) (opening_records null_target (render_pass (option_map (λ b. b.now) label.entry) width height attachments.now)) (R.Recorder.meaning recorder.old) result (R.Recorder.meaning recorder.new) }
+    ensures { Offered (asks_opening null_target (render_pass (option_map (λ b. b.now) label.entry) width height attachments.now)) (opening_records null_target (render_pass (option_map (λ b. b.now) label.entry) width height attachments.now)) (R.meaning recorder.old) result (R.meaning recorder.new) }
 {
     if attachments.len() > MAX_COLOR_ATTACHMENTS {
         return Err(Number::Range.at(MAX_COLOR_ATTACHMENTS));
@@ -245,7 +245,7 @@ pub(crate) fn open_render<R: Recorder>(
 
 // The opening of a compute pass.
 pub(crate) fn open_compute<R: Recorder>(recorder: &mut R, label: Option<&[u8]>) -> Result<(), Fault>
-    ensures { (null : ℕ) → Offered (asks_opening null (compute_pass (option_map (λ b. b.now) label.entry))) (opening_records null (compute_pass (option_map (λ b. b.now) label.entry))) (R.Recorder.meaning recorder.old) result (R.Recorder.meaning recorder.new) }
+    ensures { (null : ℕ) → Offered (asks_opening null (compute_pass (option_map (λ b. b.now) label.entry))) (opening_records null (compute_pass (option_map (λ b. b.now) label.entry))) (R.meaning recorder.old) result (R.meaning recorder.new) }
 {
     match label {
         None => record_compute(recorder, &[]),

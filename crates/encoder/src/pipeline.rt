@@ -34,8 +34,8 @@ fn put_signature<R: Recorder>(
     pass: &PassState,
     signature: u32,
 ) -> Result<(), Fault>
-    requires { sizes (signature_first (account pass.now).half signature (account pass.now).roots.layout (account pass.now).pipeline) ≤ (R.Recorder.meaning recorder.old).space }
-    ensures { Put (R.Recorder.meaning recorder.old) (signature_first (account pass.now).half signature (account pass.now).roots.layout (account pass.now).pipeline) result (R.Recorder.meaning recorder.new) }
+    requires { sizes (signature_first (account pass.now).half signature (account pass.now).roots.layout (account pass.now).pipeline) ≤ (R.meaning recorder.old).space }
+    ensures { Put (R.meaning recorder.old) (signature_first (account pass.now).half signature (account pass.now).roots.layout (account pass.now).pipeline) result (R.meaning recorder.new) }
 {
     if pass.needs_signature(signature) {
         let half = pass.kind;
@@ -49,7 +49,7 @@ pub(crate) fn record_render_pipeline<R: Recorder>(
     pass: &mut PassState,
     pipeline: &RenderPipeline,
 ) -> Result<(), Fault>
-    ensures { Handled (asks_set (set_render_pipeline pipeline.now) (account pass.old).roots.layout) (set_records (set_render_pipeline pipeline.now) (account pass.old)) (after_set (set_render_pipeline pipeline.now) (account pass.old)) (account pass.old) (R.Recorder.meaning recorder.old) result (account pass.new) (R.Recorder.meaning recorder.new) }
+    ensures { Handled (asks_set (set_render_pipeline pipeline.now) (account pass.old).roots.layout) (set_records (set_render_pipeline pipeline.now) (account pass.old)) (after_set (set_render_pipeline pipeline.now) (account pass.old)) (account pass.old) (R.meaning recorder.old) result (account pass.new) (R.meaning recorder.new) }
 {
     pass.check_pipeline(pipeline.handle, &pipeline.layout)?;
     let signature = pipeline.layout.signature();
@@ -68,7 +68,7 @@ pub(crate) fn record_compute_pipeline<R: Recorder>(
     pass: &mut PassState,
     pipeline: &ComputePipeline,
 ) -> Result<(), Fault>
-    ensures { Handled (asks_set (set_compute_pipeline pipeline.now) (account pass.old).roots.layout) (set_records (set_compute_pipeline pipeline.now) (account pass.old)) (after_set (set_compute_pipeline pipeline.now) (account pass.old)) (account pass.old) (R.Recorder.meaning recorder.old) result (account pass.new) (R.Recorder.meaning recorder.new) }
+    ensures { Handled (asks_set (set_compute_pipeline pipeline.now) (account pass.old).roots.layout) (set_records (set_compute_pipeline pipeline.now) (account pass.old)) (after_set (set_compute_pipeline pipeline.now) (account pass.old)) (account pass.old) (R.meaning recorder.old) result (account pass.new) (R.meaning recorder.new) }
 {
     pass.check_pipeline(pipeline.handle, &pipeline.layout)?;
     let signature = pipeline.layout.signature();

@@ -32,7 +32,7 @@ impl<R: Recorder> RenderPass<R> {
         group: BindGroup<'_>,
         dynamic_offsets: &[u32],
     ) -> Result<(), Fault>
-        ensures { Does (pass_scene self.old.pass self.old.null_target (R.Recorder.meaning self.old.recorder)) (set (set_bind_group layout.now index group.entry.table group.entry.dynamic_buffers.now dynamic_offsets.now)) (answered result) (pass_scene self.new.pass self.new.null_target (R.Recorder.meaning self.new.recorder)) }
+        ensures { Does (pass_scene self.old.pass self.old.null_target (R.meaning self.old.recorder)) (set (set_bind_group layout.now index group.entry.table group.entry.dynamic_buffers.now dynamic_offsets.now)) (answered result) (pass_scene self.new.pass self.new.null_target (R.meaning self.new.recorder)) }
     {
         self.pass
             .set_bind_group(layout, index, group, dynamic_offsets)
@@ -44,32 +44,32 @@ impl<R: Recorder> RenderPass<R> {
         offset_bytes: u32,
         words: &[u32],
     ) -> Result<(), Fault>
-        ensures { Does (pass_scene self.old.pass self.old.null_target (R.Recorder.meaning self.old.recorder)) (set (set_immediates layout.now offset_bytes words.now)) (answered result) (pass_scene self.new.pass self.new.null_target (R.Recorder.meaning self.new.recorder)) }
+        ensures { Does (pass_scene self.old.pass self.old.null_target (R.meaning self.old.recorder)) (set (set_immediates layout.now offset_bytes words.now)) (answered result) (pass_scene self.new.pass self.new.null_target (R.meaning self.new.recorder)) }
     {
         self.pass.set_immediates(layout, offset_bytes, words)
     }
 
     pub fn set_render_pipeline(&mut self, pipeline: &RenderPipeline) -> Result<(), Fault>
-        ensures { Does (pass_scene self.old.pass self.old.null_target (R.Recorder.meaning self.old.recorder)) (set (set_render_pipeline pipeline.now)) (answered result) (pass_scene self.new.pass self.new.null_target (R.Recorder.meaning self.new.recorder)) }
+        ensures { Does (pass_scene self.old.pass self.old.null_target (R.meaning self.old.recorder)) (set (set_render_pipeline pipeline.now)) (answered result) (pass_scene self.new.pass self.new.null_target (R.meaning self.new.recorder)) }
     {
         record_render_pipeline(&mut self.recorder, &mut self.pass, pipeline)
     }
 
     pub fn set_vertex_buffer(&mut self, index: u32, binding: BufferBinding) -> Result<(), Fault>
-        ensures { Does (pass_scene self.old.pass self.old.null_target (R.Recorder.meaning self.old.recorder)) (set (set_vertex_buffer index binding)) (answered result) (pass_scene self.new.pass self.new.null_target (R.Recorder.meaning self.new.recorder)) }
+        ensures { Does (pass_scene self.old.pass self.old.null_target (R.meaning self.old.recorder)) (set (set_vertex_buffer index binding)) (answered result) (pass_scene self.new.pass self.new.null_target (R.meaning self.new.recorder)) }
     {
         self.pass.set_vertex_buffer(index, binding)
     }
 
     // Six float patterns: x, y, width, height, least and greatest depth.
     pub fn set_viewport(&mut self, viewport: [u32; 6]) -> Result<(), Fault>
-        ensures { Does (pass_scene self.old.pass self.old.null_target (R.Recorder.meaning self.old.recorder)) (quiet (set_viewport (slice_index viewport 0) (slice_index viewport 1) (slice_index viewport 2) (slice_index viewport 3) (slice_index viewport 4) (slice_index viewport 5))) (answered result) (pass_scene self.new.pass self.new.null_target (R.Recorder.meaning self.new.recorder)) }
+        ensures { Does (pass_scene self.old.pass self.old.null_target (R.meaning self.old.recorder)) (quiet (set_viewport (slice_index viewport 0) (slice_index viewport 1) (slice_index viewport 2) (slice_index viewport 3) (slice_index viewport 4) (slice_index viewport 5))) (answered result) (pass_scene self.new.pass self.new.null_target (R.meaning self.new.recorder)) }
     {
         self.recorder.rs_set_viewports(viewport)
     }
 
     pub fn set_scissor_rect(&mut self, rect: Rect) -> Result<(), Fault>
-        ensures { Does (pass_scene self.old.pass self.old.null_target (R.Recorder.meaning self.old.recorder)) (quiet (set_scissor_rect rect.x rect.y rect.w rect.h)) (answered result) (pass_scene self.new.pass self.new.null_target (R.Recorder.meaning self.new.recorder)) }
+        ensures { Does (pass_scene self.old.pass self.old.null_target (R.meaning self.old.recorder)) (quiet (set_scissor_rect rect.x rect.y rect.w rect.h)) (answered result) (pass_scene self.new.pass self.new.null_target (R.meaning self.new.recorder)) }
     {
         let ends = rect.bounds()?;
         self.recorder
@@ -83,7 +83,7 @@ impl<R: Recorder> RenderPass<R> {
         first_instance: u32,
         instance_count: u32,
     ) -> Result<(), Fault>
-        ensures { Does (pass_scene self.old.pass self.old.null_target (R.Recorder.meaning self.old.recorder)) (drawing (draw first_vertex vertex_count first_instance instance_count)) (answered result) (pass_scene self.new.pass self.new.null_target (R.Recorder.meaning self.new.recorder)) }
+        ensures { Does (pass_scene self.old.pass self.old.null_target (R.meaning self.old.recorder)) (drawing (draw first_vertex vertex_count first_instance instance_count)) (answered result) (pass_scene self.new.pass self.new.null_target (R.meaning self.new.recorder)) }
     {
         let constants = SpecialConstants::from_draw(first_vertex, first_instance);
         let command = Fixed::DrawInstanced {
@@ -102,7 +102,7 @@ impl<R: Recorder> RenderPass<R> {
     }
 
     pub fn draw_indirect(&mut self, buffer: u32, offset: u64, draw_count: u32) -> Result<(), Fault>
-        ensures { Does (pass_scene self.old.pass self.old.null_target (R.Recorder.meaning self.old.recorder)) (drawing (draw_indirect buffer offset draw_count)) (answered result) (pass_scene self.new.pass self.new.null_target (R.Recorder.meaning self.new.recorder)) }
+        ensures { Does (pass_scene self.old.pass self.old.null_target (R.meaning self.old.recorder)) (drawing (draw_indirect buffer offset draw_count)) (answered result) (pass_scene self.new.pass self.new.null_target (R.meaning self.new.recorder)) }
     {
         if buffer == 0 {
             return Err(Number::Absent.at(0));
@@ -125,7 +125,7 @@ impl<R: Recorder> RenderPass<R> {
 
     // The end of the pass.
     pub fn end_render_pass(self) -> Result<Recording<R>, Refusal<RenderPass<R>>>
-        ensures { MatchResult result (λ p. Does (pass_scene self.pass self.null_target (R.Recorder.meaning self.recorder)) (ending Graphics) taken (list_scene p.null_target (R.Recorder.meaning p.recorder))) (λ e. Does (pass_scene self.pass self.null_target (R.Recorder.meaning self.recorder)) (ending Graphics) (refused e.fault) (pass_scene e.phase.pass e.phase.null_target (R.Recorder.meaning e.phase.recorder))) }
+        ensures { MatchResult result (λ p. Does (pass_scene self.pass self.null_target (R.meaning self.recorder)) (ending Graphics) taken (list_scene p.null_target (R.meaning p.recorder))) (λ e. Does (pass_scene self.pass self.null_target (R.meaning self.recorder)) (ending Graphics) (refused e.fault) (pass_scene e.phase.pass e.phase.null_target (R.meaning e.phase.recorder))) }
     {
         let RenderPass {
             mut recorder,
@@ -150,7 +150,7 @@ impl<R: Recorder> RenderPass<R> {
 
     // The list is given up with its pass.
     pub fn discard_encoding(self) -> Idle<R>
-        ensures { Does (pass_scene self.pass self.null_target (R.Recorder.meaning self.recorder)) discard_encoding taken (idle_scene result.null_target (R.Recorder.meaning result.recorder)) }
+        ensures { Does (pass_scene self.pass self.null_target (R.meaning self.recorder)) discard_encoding taken (idle_scene result.null_target (R.meaning result.recorder)) }
     {
         let RenderPass {
             recorder,

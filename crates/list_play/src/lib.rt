@@ -19,8 +19,8 @@ use list_file::check;
 // Plays an accepted file, which is known to fit.
 fn play_all<R: Recorder>(recorder: &mut R, file: &[u8]) -> Result<(), Fault>
     requires takes { is_accepted (file_said file.now) ≡ true }
-    requires fits { length file.now ≤ (R.Recorder.meaning recorder.old).space + 1 }
-    ensures { MatchResult result (λ _. (cs : List Command) × (file_said file.now ≡ accepted cs) × Recorded (R.Recorder.meaning recorder.old) cs (R.Recorder.meaning recorder.new)) (λ _. ⊥) }
+    requires fits { length file.now ≤ (R.meaning recorder.old).space + 1 }
+    ensures { MatchResult result (λ _. (cs : List Command) × (file_said file.now ≡ accepted cs) × Recorded (R.meaning recorder.old) cs (R.meaning recorder.new)) (λ _. ⊥) }
 {
     let mut reader = Reader::open(file)?;
     while let Some(record) = reader.next()? {
@@ -32,7 +32,7 @@ fn play_all<R: Recorder>(recorder: &mut R, file: &[u8]) -> Result<(), Fault>
 // Plays the commands of a list file on a recorder, and says how many there are. A file that is
 // refused, or whose records are longer than the space, leaves the recorder as it stands.
 pub fn play<R: Recorder>(recorder: &mut R, file: &[u8]) -> Result<usize, Fault>
-    ensures { Played (R.Recorder.meaning recorder.old) file.now result (R.Recorder.meaning recorder.new) }
+    ensures { Played (R.meaning recorder.old) file.now result (R.meaning recorder.new) }
 {
     let count = check(file)?;
     if recorder.space() < file.len() - 1 {

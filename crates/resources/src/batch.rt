@@ -99,7 +99,7 @@ fn batch_in<U: Uses, R: Recorder>(
     list: &[ResourceBarrier<U>],
 ) -> Result<(), Fault>
     ensures kept { Kept mark.old.fill mark.new.fill entries.old entries.new }
-    ensures batched { Batched (R.Recorder.meaning recorder.old) (length entries.old) mark.old.fill (barriers_of (changes_of U.Uses.usage list.now)) result (R.Recorder.meaning recorder.new) }
+    ensures batched { Batched (R.meaning recorder.old) (length entries.old) mark.old.fill (barriers_of (changes_of U.Uses.usage list.now)) result (R.meaning recorder.new) }
 {
     if entries.len() > MOST_ENTRIES {
         return Err(Number::Scratch.at(0));
@@ -122,7 +122,7 @@ pub fn batch<U: Uses, R: Recorder>(
 ) -> Result<(), Fault>
     ensures lent { scratch.new.entries.ghost_name ≡ scratch.old.entries.ghost_name }
     ensures kept { Kept scratch.old.mark.fill scratch.new.mark.fill scratch.old.entries.now scratch.new.entries.now }
-    ensures batched { Batched (R.Recorder.meaning recorder.old) (length scratch.old.entries.now) scratch.old.mark.fill (barriers_of (changes_of U.Uses.usage list.now)) result (R.Recorder.meaning recorder.new) }
+    ensures batched { Batched (R.meaning recorder.old) (length scratch.old.entries.now) scratch.old.mark.fill (barriers_of (changes_of U.Uses.usage list.now)) result (R.meaning recorder.new) }
 {
     let Scratch { entries, mark } = scratch;
     batch_in(recorder, entries, mark, list)
@@ -136,7 +136,7 @@ pub fn transition<U: Uses, R: Recorder>(
 ) -> Result<(), Fault>
     ensures lent { scratch.new.entries.ghost_name ≡ scratch.old.entries.ghost_name }
     ensures kept { Kept scratch.old.mark.fill scratch.new.mark.fill scratch.old.entries.now scratch.new.entries.now }
-    ensures transitioned { Transitioned (R.Recorder.meaning recorder.old) (length scratch.old.entries.now) scratch.old.mark.fill (changes_of U.Uses.usage list.now) result (R.Recorder.meaning recorder.new) }
+    ensures transitioned { Transitioned (R.meaning recorder.old) (length scratch.old.entries.now) scratch.old.mark.fill (changes_of U.Uses.usage list.now) result (R.meaning recorder.new) }
 {
     check(list)?;
     batch(recorder, scratch, list)

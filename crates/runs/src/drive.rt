@@ -21,7 +21,7 @@ pub fn drive<R: Recorder>(
     answers: &mut [Answer],
 ) -> Phase<R>
     ensures kept { Kept scratch.old.mark.fill scratch.new.mark.fill scratch.old.entries.now scratch.new.entries.now }
-    ensures driven { Driven null_target (R.Recorder.meaning recorder) (length scratch.old.entries.now) scratch.old.mark.fill calls.now answers.old answers.new (phase_scene R.Recorder.meaning result) }
+    ensures driven { Driven null_target (R.meaning recorder) (length scratch.old.entries.now) scratch.old.mark.fill calls.now answers.old answers.new (phase_scene R.meaning result) }
 {
     let mut phase = Phase::Idle(Idle::new(recorder, null_target));
     for i in 0..calls.len().min(answers.len()) {
@@ -46,7 +46,7 @@ pub fn encode<R: Recorder>(
     answers: &mut [Answer],
 ) -> R
     ensures kept { Kept scratch.old.mark.fill scratch.new.mark.fill scratch.old.entries.now scratch.new.entries.now }
-    ensures encoded { Encoded null_target (R.Recorder.meaning recorder) (length scratch.old.entries.now) scratch.old.mark.fill calls.now answers.old answers.new (R.Recorder.meaning result) }
+    ensures encoded { Encoded null_target (R.meaning recorder) (length scratch.old.entries.now) scratch.old.mark.fill calls.now answers.old answers.new (R.meaning result) }
 {
     drive(recorder, null_target, scratch, calls, answers).into_recorder()
 }

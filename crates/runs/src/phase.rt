@@ -23,7 +23,7 @@ pub enum Phase<R> {
 impl<R: Recorder> Phase<R> {
     // The recorder of an encoder that is done with, whether its list was ended or is given up.
     pub fn into_recorder(self) -> R
-        ensures { R.Recorder.meaning result ≡ (phase_scene R.Recorder.meaning self).meaning }
+        ensures { R.meaning result ≡ (phase_scene R.meaning self).meaning }
     {
         let idle = match self {
             Phase::Idle(idle) => idle,
@@ -47,7 +47,7 @@ fn answer_of(outcome: Result<(), Fault>) -> Answer
 
 // A call that begins a list.
 fn leave_idle<R: Recorder>(idle: Idle<R>, call: &Call<'_>) -> (Phase<R>, Answer)
-    ensures { (len fill : ℕ) → Does (idle_scene idle.null_target (R.Recorder.meaning idle.recorder)) (call_of len fill call.now) (told result.1) (phase_scene R.Recorder.meaning result.0) }
+    ensures { (len fill : ℕ) → Does (idle_scene idle.null_target (R.meaning idle.recorder)) (call_of len fill call.now) (told result.1) (phase_scene R.meaning result.0) }
 {
     match *call {
         Call::BeginEncoding => (Phase::Recording(idle.begin_encoding()), Answer::Taken),
@@ -58,7 +58,7 @@ fn leave_idle<R: Recorder>(idle: Idle<R>, call: &Call<'_>) -> (Phase<R>, Answer)
 // A call that begins a pass or ends a list.
 fn leave_list<R: Recorder>(list: Recording<R>, call: &Call<'_>) -> (Phase<R>, Answer)
     requires { leaves call.now ≡ true }
-    ensures { (len fill : ℕ) → Does (list_scene list.null_target (R.Recorder.meaning list.recorder)) (call_of len fill call.now) (told result.1) (phase_scene R.Recorder.meaning result.0) }
+    ensures { (len fill : ℕ) → Does (list_scene list.null_target (R.meaning list.recorder)) (call_of len fill call.now) (told result.1) (phase_scene R.meaning result.0) }
 {
     match *call {
         Call::EndEncoding => (Phase::Idle(list.end_encoding()), Answer::Taken),
@@ -83,7 +83,7 @@ fn leave_list<R: Recorder>(list: Recording<R>, call: &Call<'_>) -> (Phase<R>, An
 // A call that ends a render pass.
 fn leave_render<R: Recorder>(pass: RenderPass<R>, call: &Call<'_>) -> (Phase<R>, Answer)
     requires { leaves call.now ≡ true }
-    ensures { (len fill : ℕ) → Does (pass_scene pass.pass pass.null_target (R.Recorder.meaning pass.recorder)) (call_of len fill call.now) (told result.1) (phase_scene R.Recorder.meaning result.0) }
+    ensures { (len fill : ℕ) → Does (pass_scene pass.pass pass.null_target (R.meaning pass.recorder)) (call_of len fill call.now) (told result.1) (phase_scene R.meaning result.0) }
 {
     match *call {
         Call::DiscardEncoding => (Phase::Idle(pass.discard_encoding()), Answer::Taken),
@@ -98,7 +98,7 @@ fn leave_render<R: Recorder>(pass: RenderPass<R>, call: &Call<'_>) -> (Phase<R>,
 // A call that ends a compute pass.
 fn leave_compute<R: Recorder>(pass: ComputePass<R>, call: &Call<'_>) -> (Phase<R>, Answer)
     requires { leaves call.now ≡ true }
-    ensures { (len fill : ℕ) → Does (pass_scene pass.pass pass.null_target (R.Recorder.meaning pass.recorder)) (call_of len fill call.now) (told result.1) (phase_scene R.Recorder.meaning result.0) }
+    ensures { (len fill : ℕ) → Does (pass_scene pass.pass pass.null_target (R.meaning pass.recorder)) (call_of len fill call.now) (told result.1) (phase_scene R.meaning result.0) }
 {
     match *call {
         Call::DiscardEncoding => (Phase::Idle(pass.discard_encoding()), Answer::Taken),
@@ -113,7 +113,7 @@ fn leave_compute<R: Recorder>(pass: ComputePass<R>, call: &Call<'_>) -> (Phase<R
 // A call that leaves its phase where it is taken.
 pub(crate) fn leave<R: Recorder>(phase: Phase<R>, call: &Call<'_>) -> (Phase<R>, Answer)
     requires { leaves call.now ≡ true }
-    ensures { (len fill : ℕ) → Does (phase_scene R.Recorder.meaning phase) (call_of len fill call.now) (told result.1) (phase_scene R.Recorder.meaning result.0) }
+    ensures { (len fill : ℕ) → Does (phase_scene R.meaning phase) (call_of len fill call.now) (told result.1) (phase_scene R.meaning result.0) }
 {
     match phase {
         Phase::Idle(idle) => leave_idle(idle, call),
@@ -127,7 +127,7 @@ fn keep_list<R: Recorder>(list: &mut Recording<R>, scratch: &mut Scratch, call: 
     requires { leaves call.now ≡ false }
     ensures lent { scratch.new.entries.ghost_name ≡ scratch.old.entries.ghost_name }
     ensures kept { Kept scratch.old.mark.fill scratch.new.mark.fill scratch.old.entries.now scratch.new.entries.now }
-    ensures does { Does (list_scene list.old.null_target (R.Recorder.meaning list.old.recorder)) (call_of (length scratch.old.entries.now) scratch.old.mark.fill call.now) (told result) (list_scene list.new.null_target (R.Recorder.meaning list.new.recorder)) }
+    ensures does { Does (list_scene list.old.null_target (R.meaning list.old.recorder)) (call_of (length scratch.old.entries.now) scratch.old.mark.fill call.now) (told result) (list_scene list.new.null_target (R.meaning list.new.recorder)) }
 {
     match *call {
         Call::TransitionBuffers(barriers) => answer_of(list.transition_buffers(scratch, barriers)),
@@ -140,7 +140,7 @@ fn keep_list<R: Recorder>(list: &mut Recording<R>, scratch: &mut Scratch, call: 
 
 fn keep_render<R: Recorder>(pass: &mut RenderPass<R>, call: &Call<'_>) -> Answer
     requires { leaves call.now ≡ false }
-    ensures { (len fill : ℕ) → Does (pass_scene pass.old.pass pass.old.null_target (R.Recorder.meaning pass.old.recorder)) (call_of len fill call.now) (told result) (pass_scene pass.new.pass pass.new.null_target (R.Recorder.meaning pass.new.recorder)) }
+    ensures { (len fill : ℕ) → Does (pass_scene pass.old.pass pass.old.null_target (R.meaning pass.old.recorder)) (call_of len fill call.now) (told result) (pass_scene pass.new.pass pass.new.null_target (R.meaning pass.new.recorder)) }
 {
     match *call {
         Call::SetBindGroup {
@@ -183,7 +183,7 @@ fn keep_compute<R: Recorder>(
     requires { leaves call.now ≡ false }
     ensures lent { scratch.new.entries.ghost_name ≡ scratch.old.entries.ghost_name }
     ensures kept { Kept scratch.old.mark.fill scratch.new.mark.fill scratch.old.entries.now scratch.new.entries.now }
-    ensures does { Does (pass_scene pass.old.pass pass.old.null_target (R.Recorder.meaning pass.old.recorder)) (call_of (length scratch.old.entries.now) scratch.old.mark.fill call.now) (told result) (pass_scene pass.new.pass pass.new.null_target (R.Recorder.meaning pass.new.recorder)) }
+    ensures does { Does (pass_scene pass.old.pass pass.old.null_target (R.meaning pass.old.recorder)) (call_of (length scratch.old.entries.now) scratch.old.mark.fill call.now) (told result) (pass_scene pass.new.pass pass.new.null_target (R.meaning pass.new.recorder)) }
 {
     match *call {
         Call::SetBindGroup {
@@ -219,7 +219,7 @@ pub(crate) fn keep<R: Recorder>(
     requires { leaves call.now ≡ false }
     ensures lent { scratch.new.entries.ghost_name ≡ scratch.old.entries.ghost_name }
     ensures kept { Kept scratch.old.mark.fill scratch.new.mark.fill scratch.old.entries.now scratch.new.entries.now }
-    ensures does { Does (phase_scene R.Recorder.meaning phase.old) (call_of (length scratch.old.entries.now) scratch.old.mark.fill call.now) (told result) (phase_scene R.Recorder.meaning phase.new) }
+    ensures does { Does (phase_scene R.meaning phase.old) (call_of (length scratch.old.entries.now) scratch.old.mark.fill call.now) (told result) (phase_scene R.meaning phase.new) }
 {
     match phase {
         Phase::Idle(_) => Answer::NotOffered,
@@ -237,7 +237,7 @@ pub fn offer<R: Recorder>(
 ) -> (Phase<R>, Answer)
     ensures lent { scratch.new.entries.ghost_name ≡ scratch.old.entries.ghost_name }
     ensures kept { Kept scratch.old.mark.fill scratch.new.mark.fill scratch.old.entries.now scratch.new.entries.now }
-    ensures does { Does (phase_scene R.Recorder.meaning phase) (call_of (length scratch.old.entries.now) scratch.old.mark.fill call.entry) (told result.1) (phase_scene R.Recorder.meaning result.0) }
+    ensures does { Does (phase_scene R.meaning phase) (call_of (length scratch.old.entries.now) scratch.old.mark.fill call.entry) (told result.1) (phase_scene R.meaning result.0) }
 {
     if call.leaves_phase() {
         return leave(phase, &call);
