@@ -2,11 +2,10 @@
 use Rattle.std.proofs.Common.{◌≡◌, ◌<◌, ◌≤◌, Bool, true, false, cond, leb, Some, None, Option, sym, refl, ap, ◌∙◌}
 use Rattle.std.proofs.lemmas.Bool.{true≢false, false≢true, le-leb, lt-leb}
 use Rattle.command_list.specs.declared.fault.Fault.{Fault}
-use Rattle.command_list.specs.declared.fault.Number.TheVariants as number
 use Rattle.device.specs.Devices.{play}
 use Rattle.device.specs.Meaning.{Recorded, sizes}
-use Rattle.passes.specs.Calls.{fault}
 use Rattle.encoder.specs.Scenes.{Call, account_of, offers, next, records, asks, start_of, Answer, taken, refused, not_offered, is_taken, judged, verdict, Scene, Does}
+use Rattle.command_list.specs.Refusals.{fault}
 
 -- an accepted call was offered, and every question was answered by yes
 pub taken_asked : (s : Scene) (c : Call) → verdict s c ≡ taken → (offers s.stage c ≡ true) × (asks s.null c (account_of s.stage) ≡ None)
@@ -27,7 +26,7 @@ accepts s c offered clear room =
     let m = (start_of c s.meaning).space in
     ap (λ o. cond o (judged (asks s.null c (account_of s.stage)) (leb n m)) not_offered) offered
     ∙ ap (λ q. judged q (leb n m)) clear
-    ∙ ap (λ b. cond b taken (refused (fault number.Full 0))) (le-leb n m room)
+    ∙ ap (λ b. cond b taken (refused (fault 10 0))) (le-leb n m room)
 
 pub refuses : (s : Scene) (c : Call) (f : Fault) → offers s.stage c ≡ true → asks s.null c (account_of s.stage) ≡ Some f → verdict s c ≡ refused f
 unfolding verdict
@@ -36,14 +35,14 @@ refuses s c f offered asked =
     ap (λ o. cond o (judged (asks s.null c (account_of s.stage)) fit) not_offered) offered ∙ ap (λ q. judged q fit) asked
 
 pub is_full : (s : Scene) (c : Call) → offers s.stage c ≡ true → asks s.null c (account_of s.stage) ≡ None
-    → (start_of c s.meaning).space < sizes (records s.null c (account_of s.stage)) → verdict s c ≡ refused (fault number.Full 0)
+    → (start_of c s.meaning).space < sizes (records s.null c (account_of s.stage)) → verdict s c ≡ refused (fault 10 0)
 unfolding verdict
 is_full s c offered clear full =
     let n = sizes (records s.null c (account_of s.stage)) in
     let m = (start_of c s.meaning).space in
     ap (λ o. cond o (judged (asks s.null c (account_of s.stage)) (leb n m)) not_offered) offered
     ∙ ap (λ q. judged q (leb n m)) clear
-    ∙ ap (λ b. cond b taken (refused (fault number.Full 0))) (lt-leb n m full)
+    ∙ ap (λ b. cond b taken (refused (fault 10 0))) (lt-leb n m full)
 
 pub nowhere : (s : Scene) (c : Call) → offers s.stage c ≡ false → verdict s c ≡ not_offered
 unfolding verdict
@@ -100,8 +99,8 @@ does_asked s c f t offered asked same = does_not s c (refused f) t refl (refuses
 
 -- the space is too small
 pub does_full : (s : Scene) (c : Call) (t : Scene) → offers s.stage c ≡ true → asks s.null c (account_of s.stage) ≡ None
-    → (start_of c s.meaning).space < sizes (records s.null c (account_of s.stage)) → t ≡ s → Does s c (refused (fault number.Full 0)) t
-does_full s c t offered clear full same = does_not s c (refused (fault number.Full 0)) t refl (is_full s c offered clear full) same
+    → (start_of c s.meaning).space < sizes (records s.null c (account_of s.stage)) → t ≡ s → Does s c (refused (fault 10 0)) t
+does_full s c t offered clear full same = does_not s c (refused (fault 10 0)) t refl (is_full s c offered clear full) same
 
 -- the stage has no such call
 pub does_nothing : (s : Scene) (c : Call) (t : Scene) → offers s.stage c ≡ false → t ≡ s → Does s c not_offered t

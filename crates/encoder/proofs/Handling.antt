@@ -2,12 +2,11 @@
 use Rattle.std.proofs.Common.{◌≡◌, ℕ, ◌^◌, ◌&&◌, Bool, ltb, ◌<◌, ◌≤◌, subst, Result, true, false, cond, leb, ◌+◌, List, [], ◌∷◌, ◌++◌, arith, Some, None, Ok, Err, Option, sym, refl, ap, ap₂, ◌∙◌, ⊎_elim}
 use Rattle.std.proofs.lemmas.Bool.{cond_both, cases_lt, and_from, and_parts, lt-ltb, ltb-true, true≢false, false≢true, le-leb, lt-leb}
 use Rattle.command_list.specs.declared.fault.Fault.{Fault}
-use Rattle.command_list.specs.declared.fault.Number.TheVariants as number
 use Rattle.command_list.specs.Commands.{Command, size, readable}
 use Rattle.device.specs.Meaning.{Meaning, Anew, Recorded, Asked, sizes}
 use Rattle.device.proofs.Runs.{sizes_append, recorded_none}
 use Rattle.passes.specs.Account.{Account, Bound, with_roots, own_slot, current_special, constants_at, is_constants, untouched, emptied, views_untouched}
-use Rattle.passes.specs.Calls.{SetCall, DrawCall, fault, unless, before, asks_set, after_set, set_records, drawable, buffer_there, own_constants, own_command, prepared, prepared_by, by_own, wiped_slot, after_draw, marked}
+use Rattle.passes.specs.Calls.{SetCall, DrawCall, asks_set, after_set, set_records, drawable, buffer_there, own_constants, own_command, prepared, prepared_by, by_own, wiped_slot, after_draw, marked}
 use Rattle.passes.specs.Flush.{flushed}
 use Rattle.bindings.specs.declared.constants.SpecialConstants.{SpecialConstants as Constants}
 use Rattle.command_list.specs.declared.command.Half.{Half}
@@ -16,13 +15,14 @@ use Rattle.command_list.specs.Seen.{IsFault}
 use Rattle.bindings.specs.declared.rect.Rect.{Rect}
 use Rattle.bindings.specs.Rects.{Ends}
 use Rattle.encoder.specs.Opening.{QuietCall, set_scissor_rect, asks_quiet, quiet_records}
-use Rattle.encoder.proofs.Faults.{fault_by}
 use Rattle.encoder.proofs.Answered.{does_asked, does_taken}
 use Rattle.passes.specs.declared.state.PassState.{PassState}
 use Rattle.passes.specs.State.{account, Sets}
 use Rattle.encoder.specs.Scenes.{Call, Stage, idle, anew, begin_encoding, end_encoding, discard_encoding, recording, list_quiets, quiet, pass_quiets, set, drawing, pass_sets, pass_draws, same_half, in_pass, offers, asks, records, next, start_of, taken, refused, not_offered, judged, verdict, Does}
 use Rattle.encoder.specs.Handled.{Handled, answered}
 use Rattle.encoder.specs.Phases.{scene, pass_scene}
+use Rattle.command_list.specs.Refusals.{fault, unless, before}
+use Rattle.command_list.proofs.Refusing.{fault_by}
 
 module _ {X : Type 0} (asked : Option Fault) (rs : List Command) (next a : X) (m : Meaning) (b : X) (n : Meaning) where
   -- a question says no
@@ -35,9 +35,9 @@ module _ {X : Type 0} (asked : Option Fault) (rs : List Command) (next a : X) (m
   }
 
   -- the space is too small
-  pub handled_full : (f : Fault) → f ≡ fault number.Full 0 → asked ≡ None → m.space < sizes rs → b ≡ a → n ≡ m → Handled asked rs next a m (Err f) b n
+  pub handled_full : (f : Fault) → f ≡ fault 10 0 → asked ≡ None → m.space < sizes rs → b ≡ a → n ≡ m → Handled asked rs next a m (Err f) b n
   handled_full f is q l p s = record {
-    answer = ap refused is ∙ sym (ap (λ x. judged x (leb (sizes rs) m.space)) q ∙ ap (λ t. cond t taken (refused (fault number.Full 0))) (lt-leb (sizes rs) m.space l));
+    answer = ap refused is ∙ sym (ap (λ x. judged x (leb (sizes rs) m.space)) q ∙ ap (λ t. cond t taken (refused (fault 10 0))) (lt-leb (sizes rs) m.space l));
     refused = λ _. (p, s);
     state = λ e. absurd (false≢true e);
     recorded = λ e. absurd (false≢true e);
@@ -46,7 +46,7 @@ module _ {X : Type 0} (asked : Option Fault) (rs : List Command) (next a : X) (m
   -- the call is taken
   pub handled_taken : asked ≡ None → sizes rs ≤ m.space → b ≡ next → Recorded m rs n → Handled asked rs next a m (Ok tt) b n
   handled_taken q l p r = record {
-    answer = sym (ap (λ x. judged x (leb (sizes rs) m.space)) q ∙ ap (λ t. cond t taken (refused (fault number.Full 0))) (le-leb (sizes rs) m.space l));
+    answer = sym (ap (λ x. judged x (leb (sizes rs) m.space)) q ∙ ap (λ t. cond t taken (refused (fault 10 0))) (le-leb (sizes rs) m.space l));
     refused = λ e. absurd (true≢false e);
     state = λ _. p;
     recorded = λ _. r;
@@ -81,7 +81,7 @@ handled_set c p q (Err f) m s = handled_asked _ [] _ _ m _ m f s.0 (ap account s
 pub handled_one : {X : Type 0} (asked : Option Fault) (c : Command) (a : X) (m : Meaning) (r : Result Unit Fault) (n : Meaning) → asked ≡ None → readable c ≡ true → Asked m c r n → Handled asked (c ∷ []) a a m r a n
 handled_one asked c a m (Ok u) n q e k = handled_taken asked (c ∷ []) a a m a n q (omega (arith, k.fits)) refl k.recorded
 handled_one asked c a m (Err f) n q e k =
-    handled_full asked (c ∷ []) a a m a n f (fault_by f number.Full 0 k.fault) q
+    handled_full asked (c ∷ []) a a m a n f (fault_by f 10 0 k.fault) q
     (⊎_elim (λ l. omega (arith, l)) (λ l. absurd (k.why e l)) (cases_lt m.space (size c))) refl k.same
 
 -- a quiet call of a pass that has it
@@ -92,13 +92,13 @@ does_quiet q a null m n r offered h = does_handled a a a null m n (quiet q) (ask
 -- the ends of a scissor rectangle are asked about
 pub scissor_within : (r : Rect) → Ends r → asks_quiet (set_scissor_rect r.x r.y r.w r.h) ≡ None
 scissor_within r k =
-    ap (λ t. unless t (fault number.Extent 0)) (and_from (ltb (r.x + r.w) (2 ^ 31)) (ltb (r.y + r.h) (2 ^ 31)) (lt-ltb (r.x + r.w) (2 ^ 31) k.0) (lt-ltb (r.y + r.h) (2 ^ 31) k.1))
+    ap (λ t. unless t (fault 5 0)) (and_from (ltb (r.x + r.w) (2 ^ 31)) (ltb (r.y + r.h) (2 ^ 31)) (lt-ltb (r.x + r.w) (2 ^ 31) k.0) (lt-ltb (r.y + r.h) (2 ^ 31) k.1))
 
 pub scissor_outside : (r : Rect) (f : Fault) → IsFault f 5 0 → (Ends r → ⊥) → asks_quiet (set_scissor_rect r.x r.y r.w r.h) ≡ Some f
 scissor_outside r f e n = by _ refl
   where
-    by : (t : Bool) → (ltb (r.x + r.w) (2 ^ 31) && ltb (r.y + r.h) (2 ^ 31)) ≡ t → unless t (fault number.Extent 0) ≡ Some f
-    by false q = ap Some (sym (fault_by f number.Extent 0 e))
+    by : (t : Bool) → (ltb (r.x + r.w) (2 ^ 31) && ltb (r.y + r.h) (2 ^ 31)) ≡ t → unless t (fault 5 0) ≡ Some f
+    by false q = ap Some (sym (fault_by f 5 0 e))
     by true q =
         let both = and_parts (ltb (r.x + r.w) (2 ^ 31)) (ltb (r.y + r.h) (2 ^ 31)) q in
         absurd (n (ltb-true (r.x + r.w) (2 ^ 31) both.0, ltb-true (r.y + r.h) (2 ^ 31) both.1))
@@ -162,16 +162,16 @@ module _ (c : DrawCall) (a b : Account) (null : ℕ) (m n : Meaning) (r : Result
   does_draw h =
       does_handled a b (marked own (with_roots (prepared_by own a.roots) a)) null m n (drawing c) (drawable a.pipeline a.roots.layout a.roots.elements) _ r
       offered
-      (ap (λ t. before (unless t (fault number.Absent 0)) (drawable a.pipeline a.roots.layout a.roots.elements)) there)
+      (ap (λ t. before (unless t (fault 3 0)) (drawable a.pipeline a.roots.layout a.roots.elements)) there)
       (ap₂ (λ o x. flushed a.half (prepared_by o a.roots) a.vertices ++ (x ∷ [])) own_is cmd_is)
       (sym (ap in_pass (after_marked c a)) ∙ ap (λ o. in_pass (marked o (with_roots (prepared_by o a.roots) a))) own_is)
       refl h
 
 -- its buffer is none
-pub draw_absent : (c : DrawCall) (a : Account) (null : ℕ) (m : Meaning) → pass_draws a.half c ≡ true → buffer_there c ≡ false → (f : Fault) → f ≡ fault number.Absent 0
+pub draw_absent : (c : DrawCall) (a : Account) (null : ℕ) (m : Meaning) → pass_draws a.half c ≡ true → buffer_there c ≡ false → (f : Fault) → f ≡ fault 3 0
     → Does (scene (in_pass a) null m) (drawing c) (refused f) (scene (in_pass a) null m)
 draw_absent c a null m offered none' f is =
-    does_asked _ (drawing c) f _ offered (ap (λ t. before (unless t (fault number.Absent 0)) (drawable a.pipeline a.roots.layout a.roots.elements)) none' ∙ ap Some (sym is)) refl
+    does_asked _ (drawing c) f _ offered (ap (λ t. before (unless t (fault 3 0)) (drawable a.pipeline a.roots.layout a.roots.elements)) none' ∙ ap Some (sym is)) refl
 
 -- the half of a pass
 pub renders : (h : Half) → same_half h Graphics ≡ true → h ≡ Graphics

@@ -6,7 +6,7 @@ use Rattle.std.proofs.lemmas.Nat.{one_shl}
 use Rattle.command_list.specs.Commands.{Command}
 use Rattle.device.specs.Meaning.{sizes}
 use Rattle.device.proofs.Runs.{sizes_append}
-use Rattle.layouts.specs.Bits.{bit}
+use Rattle.command_list.specs.Bits.{bit}
 use Rattle.layouts.proofs.Masks.{trailing_lowest, out_here, out_other, out_less, bit_none}
 use Rattle.device.specs.Writes.{gathered}
 

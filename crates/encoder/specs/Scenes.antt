@@ -2,14 +2,13 @@
 use Rattle.std.specs.Prelude.{◌≡◌, ℕ, Bool, true, false, cond, List, [], Some, None, Option, nat_le}
 use Rattle.command_list.specs.declared.command.Half.{Half}
 use Rattle.command_list.specs.declared.command.Half.TheVariants.{Graphics, Compute}
-use Rattle.command_list.specs.declared.fault.Fault.{Fault}
-use Rattle.command_list.specs.declared.fault.Number.TheVariants as number
 use Rattle.command_list.specs.Commands.{Command}
 use Rattle.device.specs.Devices.{start}
 use Rattle.device.specs.Meaning.{Meaning, Recorded, sizes, cleared}
 use Rattle.passes.specs.Account.{Account, opened}
-use Rattle.passes.specs.Calls.{SetCall, set_bind_group, set_immediates, set_render_pipeline, set_compute_pipeline, set_vertex_buffer, DrawCall, draw, draw_indirect, dispatch, dispatch_indirect, after_set, set_records, asks_set, after_draw, draw_records, asks_draw, fault}
+use Rattle.passes.specs.Calls.{SetCall, set_bind_group, set_immediates, set_render_pipeline, set_compute_pipeline, set_vertex_buffer, DrawCall, draw, draw_indirect, dispatch, dispatch_indirect, after_set, set_records, asks_set, after_draw, draw_records, asks_draw}
 use Rattle.encoder.specs.Opening.{Opening, half_of, label_of, is_labelled, opening_records, ending_records, asks_opening, QuietCall, transition, set_viewport, set_scissor_rect, quiet_records, asks_quiet}
+use Rattle.command_list.specs.Refusals.{fault}
 
 -- the calls, by their kinds
 pub data Call : Type 0 where
@@ -122,7 +121,7 @@ records null (set c) a = set_records c a
 records null (drawing c) a = draw_records c a
 
 -- the questions of a call but for the space: the first no
-abbrev pub asks : ℕ → Call → Account → Option Fault
+abbrev pub asks : ℕ → Call → Account → Option Why
 asks null begin_encoding a = None
 asks null end_encoding a = None
 asks null discard_encoding a = None
@@ -150,7 +149,7 @@ start_of (drawing c) m = m
 -- what a call is answered
 pub data Answer : Type 0 where
   taken : Answer
-  refused : Fault → Answer
+  refused : Why → Answer
   not_offered : Answer
 
 abbrev pub is_taken : Answer → Bool
@@ -159,9 +158,9 @@ is_taken (refused f) = false
 is_taken not_offered = false
 
 -- the first no, and last whether the whole call fits the space
-abbrev pub judged : Option Fault → Bool → Answer
+abbrev pub judged : Option Why → Bool → Answer
 judged (Some f) fits = refused f
-judged None fits = cond fits taken (refused (fault number.Full 0))
+judged None fits = cond fits taken (refused (fault 10 0))
 
 -- an encoder with its null target and its recorder
 pub record Scene : Type 0 where

@@ -6,7 +6,7 @@ use native.Mathlib.Nat.{two-pow-succ}
 use Rattle.std.proofs.lemmas.Nat.{pow_pos, pow-add, mul-le}
 use Rattle.layouts.specs.declared.layout.PipelineLayout.{PipelineLayout}
 use Rattle.layouts.specs.declared.info.Owner.{Owner}
-use Rattle.layouts.specs.Bits.{bit}
+use Rattle.command_list.specs.Bits.{bit}
 use Rattle.layouts.specs.Owners.{sound, owner_of, owned, is_table, is_uniform}
 use Rattle.layouts.proofs.Masks.{same_bits}
 

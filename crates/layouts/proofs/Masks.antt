@@ -6,7 +6,7 @@ use lib.Count.{count_trailing_zeros, under}
 use Rattle.std.proofs.lemmas.Bool.{eqb-true, eq-eqb, ne_eqb, cases_lt, lt-ltb, le-ltb}
 use Rattle.std.proofs.lemmas.Nat.{pow_pos, shr-shr, and_shr, and_mod}
 use Rattle.std.proofs.lemmas.Bool.Decides.{nat_tests}
-use Rattle.layouts.specs.Bits.{bit}
+use Rattle.command_list.specs.Bits.{bit}
 
 digit : (n : ℕ) → (n % 2 ≡ 0) ⊎ (n % 2 ≡ 1)
 digit n = go (n % 2) (mod-lt n (zero-lt-suc 1))

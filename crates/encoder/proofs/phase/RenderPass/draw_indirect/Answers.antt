@@ -1,19 +1,18 @@
 use Rattle.std.proofs.Common.{sym, refl, ap, arith}
 use Rattle.std.proofs.lemmas.Bool.{lt-ltb, le-ltb}
 use Rattle.command_list.specs.declared.command.Half.TheVariants.{Graphics}
-use Rattle.command_list.specs.declared.fault.Number.TheVariants as number
 use Rattle.command_list.specs.Commands.{ExecuteIndirect}
 use Rattle.passes.specs.Calls.{draw_indirect}
-use Rattle.passes.proofs.Questions.{fault_is}
 use Rattle.encoder.specs.Scenes.{pass_draws}
 use Rattle.encoder.proofs.Handling.{does_draw, draw_absent, renders}
 use Rattle.encoder.proofs.phase.RenderPass.draw_indirect.Goals as goal
+use Rattle.command_list.proofs.Refusing.{fault_is}
 
 pub returns-then-buffer-eq0 : goal.returns-then-buffer-eq0
 returns-then-buffer-eq0 g c =
     let a = c.args in
     let call = draw_indirect a.buffer a.offset a.draw_count in
-    draw_absent call _ _ _ (ap (λ h. pass_draws h call) (renders _ a.self.now.renders)) (le-ltb 0 a.buffer (omega arith)) _ (fault_is _ number.Absent 0 c.at.ensures)
+    draw_absent call _ _ _ (ap (λ h. pass_draws h call) (renders _ a.self.now.renders)) (le-ltb 0 a.buffer (omega arith)) _ (fault_is _ 3 0 c.at.ensures)
 
 pub returns : goal.returns
 returns g c =
