@@ -156,12 +156,12 @@ after_marked c a = ap (λ l. record {
 }) (prepared_layout (own_constants c) a.roots)
 
 -- a draw of a pass that has it
-module _ (c : DrawCall) (a b : Account) (own : ListState) (m n : Meaning) (r : Result Unit Fault) (own : Option Constants) (cmd : Command)
-    (offered : pass_draws a.half c ≡ true) (there : buffer_there c ≡ true) (own_is : own_constants c ≡ own) (cmd_is : own_command c a.roots.layout ≡ cmd) where
-  pub does_draw : Handled (drawable a.pipeline a.roots.layout a.roots.elements) (flushed a.half (prepared_by own a.roots) a.vertices ++ (cmd ∷ [])) (marked own (with_roots (prepared_by own a.roots) a)) a m r b n
+module _ (c : DrawCall) (a b : Account) (own : ListState) (m n : Meaning) (r : Result Unit Fault) (special : Option Constants) (cmd : Command)
+    (offered : pass_draws a.half c ≡ true) (there : buffer_there c ≡ true) (own_is : own_constants c ≡ special) (cmd_is : own_command c a.roots.layout ≡ cmd) where
+  pub does_draw : Handled (drawable a.pipeline a.roots.layout a.roots.elements) (flushed a.half (prepared_by special a.roots) a.vertices ++ (cmd ∷ [])) (marked special (with_roots (prepared_by special a.roots) a)) a m r b n
       → Does (scene (in_pass a) own m) (drawing c) (answered r) (scene (in_pass b) own n)
   does_draw h =
-      does_handled a b (marked own (with_roots (prepared_by own a.roots) a)) own m n (drawing c) (drawable a.pipeline a.roots.layout a.roots.elements) _ r
+      does_handled a b (marked special (with_roots (prepared_by special a.roots) a)) own m n (drawing c) (drawable a.pipeline a.roots.layout a.roots.elements) _ r
       offered
       (ap (λ t. before (unless t (fault 3 0)) (drawable a.pipeline a.roots.layout a.roots.elements)) there)
       (ap₂ (λ o x. flushed a.half (prepared_by o a.roots) a.vertices ++ (x ∷ [])) own_is cmd_is)
