@@ -35,7 +35,12 @@ impl<R: Recorder> Idle<R> {
 
     // A list is begun: the recorder starts anew.
     pub fn begin_encoding(self) -> Recording<R>
-        ensures { Does (idle_scene R.meaning self) begin_encoding taken (list_scene R.meaning result) }
+        ensures {
+            Does (idle_scene R.meaning self)
+                begin_encoding
+                taken
+                (list_scene R.meaning result)
+        }
     {
         let Idle {
             mut recorder,
@@ -68,7 +73,13 @@ impl<R: Recorder> Recording<R> {
     ) -> Result<(), Fault>
         ensures lent { scratch.new.entries.ghost_name ≡ scratch.old.entries.ghost_name }
         ensures kept { Kept scratch.old.mark.fill scratch.new.mark.fill scratch.old.entries.now scratch.new.entries.now }
-        ensures does { Does (list_scene R.meaning self.old) (quiet (transition_call (changes_of (λ u. buffer u.bits) barriers.now) (length scratch.old.entries.now) scratch.old.mark.fill)) (answered result) (list_scene R.meaning self.new) }
+        ensures does {
+            Does (list_scene R.meaning self.old)
+                (quiet (transition_call (changes_of (λ u. buffer u.bits) barriers.now) (length
+                    scratch.old.entries.now) scratch.old.mark.fill))
+                (answered result)
+                (list_scene R.meaning self.new)
+        }
     {
         transition(&mut self.recorder, scratch, barriers)
     }
@@ -80,14 +91,25 @@ impl<R: Recorder> Recording<R> {
     ) -> Result<(), Fault>
         ensures lent { scratch.new.entries.ghost_name ≡ scratch.old.entries.ghost_name }
         ensures kept { Kept scratch.old.mark.fill scratch.new.mark.fill scratch.old.entries.now scratch.new.entries.now }
-        ensures does { Does (list_scene R.meaning self.old) (quiet (transition_call (changes_of (λ u. texture u.bits) barriers.now) (length scratch.old.entries.now) scratch.old.mark.fill)) (answered result) (list_scene R.meaning self.new) }
+        ensures does {
+            Does (list_scene R.meaning self.old)
+                (quiet (transition_call (changes_of (λ u. texture u.bits) barriers.now) (length
+                    scratch.old.entries.now) scratch.old.mark.fill))
+                (answered result)
+                (list_scene R.meaning self.new)
+        }
     {
         transition(&mut self.recorder, scratch, barriers)
     }
 
     // The list is whole.
     pub fn end_encoding(self) -> Idle<R>
-        ensures { Does (list_scene R.meaning self) end_encoding taken (idle_scene R.meaning result) }
+        ensures {
+            Does (list_scene R.meaning self)
+                end_encoding
+                taken
+                (idle_scene R.meaning result)
+        }
     {
         let Recording {
             recorder,
@@ -101,7 +123,12 @@ impl<R: Recorder> Recording<R> {
 
     // The list is given up: what stands in the recorder is of no use.
     pub fn discard_encoding(self) -> Idle<R>
-        ensures { Does (list_scene R.meaning self) discard_encoding taken (idle_scene R.meaning result) }
+        ensures {
+            Does (list_scene R.meaning self)
+                discard_encoding
+                taken
+                (idle_scene R.meaning result)
+        }
     {
         let Recording {
             recorder,
@@ -122,7 +149,19 @@ impl<R: Recorder> Recording<R> {
         height: u32,
         attachments: &[Option<ColorAttachment>],
     ) -> Result<RenderPass<R>, Refusal<Recording<R>>>
-        ensures { MatchResult result (λ p. Does (list_scene R.meaning self) (opening (render_pass (option_map (λ b. b.now) label.entry) width height attachments.now)) taken (render_scene R.meaning p)) (λ e. Does (list_scene R.meaning self) (opening (render_pass (option_map (λ b. b.now) label.entry) width height attachments.now)) (refused (why_of e.fault)) (list_scene R.meaning e.phase)) }
+        ensures {
+            MatchResult result
+                (λ p. Does (list_scene R.meaning self)
+                    (opening (render_pass (option_map (λ b. b.now) label.entry) width height
+                        attachments.now))
+                    taken
+                    (render_scene R.meaning p))
+                (λ e. Does (list_scene R.meaning self)
+                    (opening (render_pass (option_map (λ b. b.now) label.entry) width height
+                        attachments.now))
+                    (refused (why_of e.fault))
+                    (list_scene R.meaning e.phase))
+        }
     {
         let Recording {
             mut recorder,
@@ -155,7 +194,17 @@ impl<R: Recorder> Recording<R> {
         self,
         label: Option<&[u8]>,
     ) -> Result<ComputePass<R>, Refusal<Recording<R>>>
-        ensures { MatchResult result (λ p. Does (list_scene R.meaning self) (opening (compute_pass (option_map (λ b. b.now) label.entry))) taken (compute_scene R.meaning p)) (λ e. Does (list_scene R.meaning self) (opening (compute_pass (option_map (λ b. b.now) label.entry))) (refused (why_of e.fault)) (list_scene R.meaning e.phase)) }
+        ensures {
+            MatchResult result
+                (λ p. Does (list_scene R.meaning self)
+                    (opening (compute_pass (option_map (λ b. b.now) label.entry)))
+                    taken
+                    (compute_scene R.meaning p))
+                (λ e. Does (list_scene R.meaning self)
+                    (opening (compute_pass (option_map (λ b. b.now) label.entry)))
+                    (refused (why_of e.fault))
+                    (list_scene R.meaning e.phase))
+        }
     {
         let Recording {
             mut recorder,
