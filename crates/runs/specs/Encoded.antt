@@ -11,17 +11,11 @@ use Rattle.runs.specs.Driven.{Driven}
 -- what a call leaves of a list: the beginning of one leaves nothing of the one before it
 abbrev pub left_by : Call → List Command → List Command
 left_by begin_encoding cs = []
-left_by end_encoding cs = cs
-left_by discard_encoding cs = cs
-left_by (opening o) cs = cs
-left_by (ending h) cs = cs
-left_by (quiet q) cs = cs
-left_by (set c) cs = cs
-left_by (drawing c) cs = cs
+left_by _ cs = cs
 
 -- the list behind a call: an accepted one adds its commands
 abbrev pub listed_by : Moment → List Command → List Command
-listed_by m cs = cond (is_taken m.answer) (left_by m.call cs ++ records m.before.null m.call (account_at m)) cs
+listed_by m cs = cond (is_taken m.answer) (left_by m.call cs ++ records_at m) cs
 
 -- the list behind the calls of a run, where there were these commands before: those of the accepted calls since the latest list was begun
 abbrev pub recorded : List Moment → List Command → List Command

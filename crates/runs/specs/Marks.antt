@@ -1,9 +1,14 @@
 -- Whole runs of an encoder, and what holds between the marks of each pass.
-use Rattle.std.specs.Prelude.{◌≡◌, ℕ, ◌<◌, Bool, true, false, cond, ◌&&◌, ◌⊎◌, List, [], ◌∷◌, ◌++◌, Some, ◌≢◌}
+use Rattle.std.specs.Prelude.{◌≡◌, ℕ, ◌<◌, Bool, true, false, cond, ◌&&◌, ◌⊎◌, List, [], ◌∷◌, ◌++◌, Some, Option, ◌≢◌}
 use Rattle.command_list.specs.Commands.{Command}
 use Rattle.device.specs.Devices.{Device, other, step, play}
 use Rattle.layouts.specs.declared.layout.PipelineLayout.{PipelineLayout}
-use Rattle.passes.specs.Account.{Pipeline, Account}
+use Rattle.layouts.specs.declared.info.Owner.{Owner}
+use Rattle.layouts.specs.declared.info.Owner.TheVariants.{Special}
+use Rattle.layouts.specs.Layouts.{owner_in}
+use Rattle.passes.specs.declared.element.RootElement.{RootElement}
+use Rattle.passes.specs.declared.element.RootElement.TheVariants.{SpecialConstants}
+use Rattle.passes.specs.Account.{Pipeline, Account, fits_owner}
 use Rattle.passes.specs.Flush.{nothing, value_at, Holds}
 use Rattle.passes.specs.Calls.{DrawCall, prepared, own_constants, wiped_slot, own_command, set_touches, set_touches_vertex, draw_touches}
 use Rattle.encoder.specs.Scenes.{Call, begin_encoding, end_encoding, discard_encoding, opening, ending, quiet, set, drawing, idle, account_of, records, Answer, taken, is_taken, Scene, Does}
@@ -31,25 +36,14 @@ abbrev pub account_at : Moment → Account
 account_at m = account_of m.before.stage
 
 abbrev pub is_opening : Call → Bool
-is_opening begin_encoding = false
-is_opening end_encoding = false
-is_opening discard_encoding = false
 is_opening (opening o) = true
-is_opening (ending h) = false
-is_opening (quiet q) = false
-is_opening (set c) = false
-is_opening (drawing c) = false
+is_opening _ = false
 
 -- the marks of a pass are its opening and each accepted draw or dispatch
 abbrev pub is_mark : Call → Bool
-is_mark begin_encoding = false
-is_mark end_encoding = false
-is_mark discard_encoding = false
 is_mark (opening o) = true
-is_mark (ending h) = false
-is_mark (quiet q) = false
-is_mark (set c) = false
 is_mark (drawing c) = true
+is_mark _ = false
 
 pub record Mark (m : Moment) : Type 0 where
   pub accepted : m.answer ≡ taken
@@ -68,39 +62,26 @@ but_last (c ∷ d ∷ cs) = c ∷ but_last (d ∷ cs)
 
 -- what a mark finds: an opening the device before its first record, a draw the device just before its own record, which is its last
 abbrev pub found_by : Call → List Command → Device → Device
-found_by begin_encoding cs d = d
-found_by end_encoding cs d = d
-found_by discard_encoding cs d = d
-found_by (opening o) cs d = d
-found_by (ending h) cs d = d
-found_by (quiet q) cs d = d
-found_by (set c) cs d = d
 found_by (drawing c) cs d = play (but_last cs) d
+found_by _ cs d = d
+
+-- the commands that a call records where it is accepted
+abbrev pub records_at : Moment → List Command
+records_at m = records m.before.own m.call (account_at m)
 
 abbrev pub found : Moment → Device
-found m = found_by m.call (records m.before.null m.call (account_at m)) (device_before m)
+found m = found_by m.call (records_at m) (device_before m)
 
 -- the root slots that a call touches
 abbrev pub touches : Call → Account → ℕ → Bool
-touches begin_encoding a k = false
-touches end_encoding a k = false
-touches discard_encoding a k = false
-touches (opening o) a k = false
-touches (ending h) a k = false
-touches (quiet q) a k = false
 touches (set c) a k = set_touches c a.roots k
 touches (drawing c) a k = draw_touches c a.roots k
+touches _ a k = false
 
 -- the vertex slots that a call touches
 abbrev pub touches_vertex : Call → Account → ℕ → Bool
-touches_vertex begin_encoding a i = false
-touches_vertex end_encoding a i = false
-touches_vertex discard_encoding a i = false
-touches_vertex (opening o) a i = false
-touches_vertex (ending h) a i = false
-touches_vertex (quiet q) a i = false
 touches_vertex (set c) a i = set_touches_vertex c a.vertices i
-touches_vertex (drawing c) a i = false
+touches_vertex _ a i = false
 
 -- one of the calls was accepted and touched the slot
 abbrev pub Some_touched : (Call → Account → ℕ → Bool) → List Moment → ℕ → Type 0
@@ -118,7 +99,17 @@ abbrev pub since_opening : List Moment → List Moment → List Moment
 since_opening since [] = since
 since_opening since (m ∷ ms) = cond (is_taken m.answer && is_opening m.call) (since_opening [] ms) (since_opening (since ++ (m ∷ [])) ms)
 
--- What holds of an accepted draw that finds the device d, where the mark before it found e. The calls since that mark, up to the draw, are since; those of its pass are ever.
+abbrev pub is_special_element : RootElement → Bool
+is_special_element (SpecialConstants s) = true
+is_special_element _ = false
+
+-- an element of its owner's kind: at the special slot, special constants
+abbrev pub is_of_kind : Option Owner → RootElement → Bool
+is_of_kind (Some Special) e = is_special_element e
+is_of_kind o e = fits_owner o e
+
+-- What holds of an accepted draw that finds the device d, where the mark before it found e. The calls since that
+-- mark, up to the draw, are since; those of its pass are ever.
 pub record Stands (c : DrawCall) (later : Moment) (since ever : List Moment) (e d : Device) : Type 0 where
   pub pipeline : Pipeline
   pub layout : PipelineLayout
@@ -126,15 +117,22 @@ pub record Stands (c : DrawCall) (later : Moment) (since ever : List Moment) (e 
   pub current : (account_at later).roots.layout ≡ Some layout
   -- its pipeline and that pipeline's root signature are on the device, and the current layout is of that signature
   pub on_device : d.pipeline ≡ pipeline.handle
+  pub handle : 0 < pipeline.handle
   pub signed : (d.halves (account_at later).half).signature ≡ pipeline.signature
   pub same : pipeline.signature ≡ layout.signature
   -- its own record comes next, and is the latest draw
   pub recorded : device_after later ≡ step (own_command c (Some layout)) d
   pub latest : (device_after later).latest ≡ Some (own_command c (Some layout))
   -- each root slot of the layout holds the account's value, the draw's own constants among them
-  pub holds : (k : ℕ) → k < layout.total_root_elements → Holds (value_at (account_at later).half (prepared c (account_at later).roots) k) ((d.halves (account_at later).half).slots k)
-  -- and that is a value, but for the slot that an indirect call with an own signature writes itself
-  pub known : (k : ℕ) → k < layout.total_root_elements → (wiped_slot (own_constants c) (Some layout) ≢ Some k) → value_at (account_at later).half (prepared c (account_at later).roots) k ≢ nothing
+  pub holds : (k : ℕ) → k < layout.total_root_elements
+      → Holds (value_at (account_at later).half (prepared c (account_at later).roots) k)
+          ((d.halves (account_at later).half).slots k)
+  -- and that is a value, of an element of its owner's kind, but for the slot that an indirect call with a command
+  -- signature of its own writes itself
+  pub known : (k : ℕ) → k < layout.total_root_elements → (wiped_slot (own_constants c) (Some layout) ≢ Some k)
+      → value_at (account_at later).half (prepared c (account_at later).roots) k ≢ nothing
+  pub of_kind : (k : ℕ) → k < layout.total_root_elements → (wiped_slot (own_constants c) (Some layout) ≢ Some k)
+      → is_of_kind (owner_in layout k) ((prepared c (account_at later).roots).elements k) ≡ true
   -- each vertex slot that was touched in the pass holds the account's view
   pub views : (i : ℕ) → TouchedVertex ever i → d.vertices i ≡ (account_at later).vertices.views i
   -- a root slot of the layout was written exactly when a call since the mark touched it, and no other root slot was
