@@ -1,5 +1,5 @@
 -- The commands of a list, and the operands that each is written with.
-use Rattle.std.specs.Prelude.{ℕ, ◌+◌, Bool, true, false, ◌&&◌, List, [], ◌∷◌, length, Some, None, Option, ◌==◌, nat_le, nat_lt}
+use Rattle.std.specs.Prelude.{ℕ, ◌+◌, ◌/◌, Bool, true, false, ◌&&◌, List, [], ◌∷◌, length, Some, None, Option, ◌==◌, nat_le, nat_lt}
 use Rattle.std.specs.List.{flat_map}
 use Rattle.command_list.specs.declared.command.Half.{Half}
 use Rattle.command_list.specs.declared.command.Half.TheVariants.{Graphics, Compute}
@@ -40,6 +40,11 @@ pub data Command : Type 0 where
   Dispatch : ℕ → ℕ → ℕ → Command
   -- a draw (graphics) or a dispatch (compute), the special slot of an own signature, count, buffer, offset
   ExecuteIndirect : Half → Option ℕ → ℕ → ℕ → ℕ → Command
+
+-- how many bytes numbers of these widths take
+abbrev pub sum : List ℕ → ℕ
+sum [] = 0
+sum (w ∷ ws) = w + sum ws
 
 -- the code of a call that each half has for itself
 abbrev pub of_half : {A : Type 0} → Half → A → A → A
@@ -116,6 +121,17 @@ unit u = field 2 u ∷ []
 
 abbrev pub handle : ℕ → List Field
 handle h = field 8 h ∷ []
+
+-- the widths of a barrier's entry, and how many bytes that is
+abbrev pub entry_widths : List ℕ
+entry_widths = 1 ∷ 4 ∷ 4 ∷ 4 ∷ 4 ∷ []
+
+abbrev pub entry_width : ℕ
+entry_width = sum entry_widths
+
+-- the most entries that a record's length can tell
+abbrev pub most_entries : ℕ
+most_entries = 65534 / entry_width
 
 abbrev pub entry : Barrier → List Field
 entry b = field 1 (type_byte b.kind) ∷ field 4 b.resource ∷ field 4 b.subresource ∷ field 4 b.before ∷ field 4 b.after ∷ []

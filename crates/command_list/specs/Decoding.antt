@@ -8,7 +8,7 @@ use Rattle.command_list.specs.declared.command.Barrier.{Barrier}
 use Rattle.command_list.specs.declared.code.Code.{Code}
 use Rattle.command_list.specs.declared.code.Code.TheVariants as code
 use Rattle.command_list.specs.Numbers.{numbers}
-use Rattle.command_list.specs.Commands.{Command, byte_of, in_range, BeginEvent, EndEvent, SetDescriptorHeaps, SetRootSignature, SetPipelineState, IASetPrimitiveTopology, IASetVertexBuffers, SetRoot32BitConstant, SetRootDescriptorTable, SetRootConstantBufferView, OMSetRenderTargets, ClearRenderTargetView, RSSetViewports, RSSetScissorRects, ResourceBarrier, DrawInstanced, Dispatch, ExecuteIndirect}
+use Rattle.command_list.specs.Commands.{Command, byte_of, in_range, sum, entry_widths, BeginEvent, EndEvent, SetDescriptorHeaps, SetRootSignature, SetPipelineState, IASetPrimitiveTopology, IASetVertexBuffers, SetRoot32BitConstant, SetRootDescriptorTable, SetRootConstantBufferView, OMSetRenderTargets, ClearRenderTargetView, RSSetViewports, RSSetScissorRects, ResourceBarrier, DrawInstanced, Dispatch, ExecuteIndirect}
 
 abbrev pub codes : List Code
 codes =
@@ -51,14 +51,10 @@ shape code.OMSetRenderTargets = counted (8 ∷ [])
 shape code.ClearRenderTargetView = fixed (8 ∷ 4 ∷ 4 ∷ 4 ∷ 4 ∷ [])
 shape code.RSSetViewports = fixed (4 ∷ 4 ∷ 4 ∷ 4 ∷ 4 ∷ 4 ∷ [])
 shape code.RSSetScissorRects = fixed (4 ∷ 4 ∷ 4 ∷ 4 ∷ [])
-shape code.ResourceBarrier = several (1 ∷ 4 ∷ 4 ∷ 4 ∷ 4 ∷ [])
+shape code.ResourceBarrier = several entry_widths
 shape code.DrawInstanced = fixed (4 ∷ 4 ∷ 4 ∷ 4 ∷ [])
 shape code.Dispatch = fixed (4 ∷ 4 ∷ 4 ∷ [])
 shape code.ExecuteIndirect = fixed (1 ∷ 1 ∷ 4 ∷ 4 ∷ 8 ∷ [])
-
-abbrev pub sum : List ℕ → ℕ
-sum [] = 0
-sum (w ∷ ws) = w + sum ws
 
 -- operands of len bytes, the first of them b, are as long as their shape says
 abbrev pub length_right : Shape → ℕ → ℕ → Bool
@@ -154,11 +150,26 @@ abbrev pub sized : Decoded → ℕ → Front
 sized (takes c) n = first c n
 sized (wrong r) n = broken r
 
--- a record is its first two bytes, which tell the length of what follows them, its code and the rest
-unfoldable pub front : List ℕ → Front
-front [] = ended
-front (hi ∷ []) = broken 22
-front (hi ∷ lo ∷ []) = broken 22
-front (hi ∷ lo ∷ k ∷ bs) =
-    cond (hi * 256 + lo == 0 || nat_lt (length bs) (hi * 256 + lo - 1)) (broken 22)
-    (sized (decode_named (code_named k) (take (hi * 256 + lo - 1) bs)) (2 + (hi * 256 + lo)))
+-- the frame at the front of some bytes: a byte that names a code, the operands behind it, and how many bytes it takes
+-- in all; or none at their end; or one that is cut short or of length 0
+pub data Framing : Type 0 where
+  no_frame : Framing
+  frame : ℕ → List ℕ → ℕ → Framing
+  cut : Framing
+
+-- a frame is two bytes, which tell the length of what follows them, a code and its operands
+unfoldable pub framing : List ℕ → Framing
+framing [] = no_frame
+framing (hi ∷ lo ∷ k ∷ bs) =
+    cond (hi * 256 + lo == 0 || nat_lt (length bs) (hi * 256 + lo - 1)) cut
+    (frame k (take (hi * 256 + lo - 1) bs) (2 + (hi * 256 + lo)))
+framing _ = cut
+
+-- what a frame says by the codes of a list file
+abbrev pub read_frame : Framing → Front
+read_frame no_frame = ended
+read_frame (frame k ops n) = sized (decode_named (code_named k) ops) n
+read_frame cut = broken 22
+
+abbrev pub front : List ℕ → Front
+front bs = read_frame (framing bs)

@@ -14,7 +14,7 @@ use Rattle.command_list.specs.declared.record.Rows.{Rows}
 use Rattle.command_list.specs.declared.code.Code.{Code}
 use Rattle.command_list.specs.declared.command.BarrierType.{BarrierType}
 use Rattle.command_list.specs.Numbers.{number_at, numbers}
-use Rattle.command_list.specs.Commands.{Command, BeginEvent, EndEvent, SetDescriptorHeaps, SetRootSignature, SetPipelineState, IASetPrimitiveTopology, IASetVertexBuffers, SetRoot32BitConstant, SetRootDescriptorTable, SetRootConstantBufferView, OMSetRenderTargets, ClearRenderTargetView, RSSetViewports, RSSetScissorRects, ResourceBarrier, DrawInstanced, Dispatch, ExecuteIndirect}
+use Rattle.command_list.specs.Commands.{Command, entry_widths, entry_width, BeginEvent, EndEvent, SetDescriptorHeaps, SetRootSignature, SetPipelineState, IASetPrimitiveTopology, IASetVertexBuffers, SetRoot32BitConstant, SetRootDescriptorTable, SetRootConstantBufferView, OMSetRenderTargets, ClearRenderTargetView, RSSetViewports, RSSetScissorRects, ResourceBarrier, DrawInstanced, Dispatch, ExecuteIndirect}
 use Rattle.command_list.specs.Decoding.{code_named, repeated, type_of, then, barriers, Decoded, takes, wrong, Front, ended, first, broken, front}
 
 -- the number of each refusal
@@ -74,7 +74,7 @@ every w bs = numbers (repeated (length bs / w) (w ∷ [])) 0 bs
 
 -- the numbers of barrier entries
 abbrev pub entry_numbers : List ℕ → List ℕ
-entry_numbers bs = numbers (repeated (length bs / 17) (1 ∷ 4 ∷ 4 ∷ 4 ∷ 4 ∷ [])) 0 bs
+entry_numbers bs = numbers (repeated (length bs / entry_width) entry_widths) 0 bs
 
 -- the barrier whose entry begins at a place, if its type is known
 abbrev pub entry_at : ℕ → List ℕ → Option Barrier
@@ -103,18 +103,19 @@ abbrev pub Types : ℕ → Result BarrierType Number → Type 0
 Types b (Ok k) = type_of b ≡ Some k
 Types b (Err e) = (type_of b ≡ None) × (e ≡ number.Operand)
 
-abbrev pub seen : Result Record Number → Decoded
+-- what a record was read as, or the number of its refusal
+abbrev pub seen : Result Record Fault → Decoded
 seen (Ok r) = takes (command_of r)
-seen (Err n) = wrong (number_of n)
+seen (Err f) = wrong (number_of f.number)
 
 -- a record with its size, or the end
 abbrev pub front_of : Option (Record × ℕ) → Front
 front_of None = ended
 front_of (Some p) = first (command_of p.0) p.1
 
-abbrev pub seen_front : Result (Option (Record × ℕ)) Number → Front
+abbrev pub seen_front : Result (Option (Record × ℕ)) Fault → Front
 seen_front (Ok o) = front_of o
-seen_front (Err n) = broken (number_of n)
+seen_front (Err f) = broken (number_of f.number)
 
 -- what one step of the reader comes to: the end, a command, or a refusal's number and place; and the place that it leaves the reader at
 pub data Step : Type 0 where

@@ -1,7 +1,8 @@
 // Goes through a list file record by record.
-ghost use Rattle.std.specs.Prelude.{◌≡◌, ℕ, ◌+◌, ◌≤◌, true, false, length, MatchResult};
-ghost use Rattle.command_list.specs.Decoding.{front as front_said};
+ghost use Rattle.std.specs.Prelude.{◌≡◌, ℕ, ◌+◌, ◌≤◌, true, false, length, MatchResult, IfErr};
+ghost use Rattle.command_list.specs.Decoding.{front as front_said, framing};
 ghost use Rattle.command_list.specs.Files.{has_version};
+ghost use Rattle.command_list.specs.Read.{Framed};
 ghost use Rattle.command_list.specs.Seen.{IsFault, seen_front, seen_step, step_at};
 
 use crate::code::Code;
@@ -12,23 +13,49 @@ use crate::record::Record;
 // The longest list file in bytes.
 pub const MOST_BYTES: usize = 65536;
 
-// The record at the front of what is left of a file, with the bytes that it takes; none at the end.
-fn front(left: &[u8]) -> Result<Option<(Record, usize)>, Number>
-    ensures { seen_front result ≡ front_said left.now }
-{
-    match left {
-        [] => Ok(None),
-        [hi, lo, code, rest @ ..] => {
-            let n = u16::from_be_bytes([*hi, *lo]) as usize;
-            if n == 0 || rest.len() < n - 1 {
-                return Err(Number::Cut);
+/// A record before its code and its operands are read: it is told apart from its neighbours alone.
+#[derive(Clone, Copy)]
+pub struct Frame<'a> {
+    /// The byte that names a code, if one has it.
+    pub code: u8,
+    /// What stands behind the code.
+    pub operands: &'a [u8],
+}
+
+impl<'a> Frame<'a> {
+    /// The frame at the front of the bytes at a place of a file, and how many bytes it takes in all; none where no
+    /// bytes are left. One that is cut short or of length 0 is refused with 22 at the place.
+    pub fn take(bytes: &'a [u8], place: usize) -> Result<Option<(Frame<'a>, usize)>, Fault>
+        ensures { Framed (framing bytes.now) place result }
+    {
+        match bytes {
+            [] => Ok(None),
+            [hi, lo, code, rest @ ..] => {
+                let n = u16::from_be_bytes([*hi, *lo]) as usize;
+                if n == 0 || rest.len() < n - 1 {
+                    return Err(Number::Cut.at(place));
+                }
+                let frame = Frame {
+                    code: *code,
+                    operands: &rest[0..n - 1],
+                };
+                Ok(Some((frame, 2 + n)))
             }
-            let code = Code::try_from(*code)?;
-            let record = read_operands(code, &rest[0..n - 1])?;
-            Ok(Some((record, 2 + n)))
+            _ => Err(Number::Cut.at(place)),
         }
-        _ => Err(Number::Cut),
     }
+}
+
+// The record at the front of the bytes at a place of a file, with the bytes that it takes; none at the end.
+fn front(left: &[u8], place: usize) -> Result<Option<(Record, usize)>, Fault>
+    ensures says { seen_front result ≡ front_said left.now }
+    ensures place { IfErr result (λ f. f.place ≡ place) }
+{
+    let Some((frame, size)) = Frame::take(left, place)? else {
+        return Ok(None);
+    };
+    let code = Code::try_from(frame.code).map_err(|number| number.at(place))?;
+    Ok(Some((read_operands(code, frame.operands, place)?, size)))
 }
 
 // A list file and the place of its next record.
@@ -64,14 +91,10 @@ impl<'a> Reader<'a> {
         ensures gives { seen_step result self.new.at ≡ step_at self.old.file.now self.old.at }
     {
         let at = self.at;
-        // A match, since the contract has these three ways too.
-        match front(&self.file[at..]) {
-            Ok(None) => Ok(None),
-            Ok(Some((record, size))) => {
-                self.at = at + size;
-                Ok(Some(record))
-            }
-            Err(number) => Err(number.at(at)),
-        }
+        let Some((record, size)) = front(&self.file[at..], at)? else {
+            return Ok(None);
+        };
+        self.at = at + size;
+        Ok(Some(record))
     }
 }

@@ -9,6 +9,9 @@ use crate::command::{Barrier, Call};
 use crate::row::Row;
 use std::marker::PhantomData;
 
+/// The most entries of a resource barrier: the length of a record is told in two bytes.
+pub const MOST_ENTRIES: usize = 65534 / Barrier::WIDTH;
+
 // A list among the operands: rows of one width, as the file's bytes have them.
 #[derive(Clone, Copy)]
 pub struct Rows<'a, T> {

@@ -2,6 +2,7 @@
 ghost use Rattle.std.specs.Prelude.{◌≡◌, ℕ, ◌+◌, ◌*◌, ◌/◌, ◌<◌, ◌≤◌, if◌then◌else◌, nat_le, List, length, is_some, Option, Some, None};
 ghost use Rattle.std.specs.List.{slice_get, list_all, range_with_len};
 ghost use Rattle.command_list.specs.Numbers.{number_at};
+ghost use Rattle.command_list.specs.Commands.{entry_width};
 ghost use Rattle.command_list.specs.Decoding.{barriers};
 ghost use Rattle.command_list.specs.Seen.{every, entry_at, entry_numbers};
 
@@ -104,7 +105,7 @@ impl Row for Barrier {
     ghost use Rattle.std.proofs.Common.{rules};
     ghost use Rattle.command_list.specs.RowLaws.{count_entries, turn_entries, end_entries, each_entry};
 
-    ghost WIDTH = { 17 };
+    ghost WIDTH = { entry_width };
 
     const WIDTH: usize = 17;
 
@@ -113,7 +114,7 @@ impl Row for Barrier {
     ghost rows = { λ bs. barriers (entry_numbers bs) };
 
     fn read(bytes: &[u8], at: usize) -> Option<Barrier> {
-        if !holds(bytes, at, 17) {
+        if !holds(bytes, at, Barrier::WIDTH) {
             return None;
         }
         // `let .. else`, which the check follows without help, and `.ok()?` not.

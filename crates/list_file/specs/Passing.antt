@@ -4,7 +4,7 @@ use Rattle.command_list.specs.declared.fault.Fault.{Fault}
 use Rattle.command_list.specs.Commands.{Command, fields, record_of, size, readable}
 use Rattle.command_list.specs.Numbers.{Fit}
 use Rattle.command_list.specs.Decoding.{first, front}
-use Rattle.command_list.specs.Files.{Verdict, accepted, refused, file, encoded}
+use Rattle.command_list.specs.Files.{most_bytes, Verdict, accepted, refused, file, encoded}
 use Rattle.command_list.specs.Seen.{IsFault}
 
 -- n commands are accepted
@@ -45,8 +45,8 @@ all_readable (c ∷ cs) = readable c && all_readable cs
 
 -- how long a list of cs is
 abbrev pub ListSize : List Command → Result ℕ Fault → Type 0
-ListSize cs (Ok n) = (all_readable cs ≡ true) × (n ≡ length (encoded cs)) × (n ≤ 65536)
-ListSize cs (Err f) = IsFault f 10 0 × (all_readable cs ≡ true → length (encoded cs) ≤ 65536 → ⊥)
+ListSize cs (Ok n) = (all_readable cs ≡ true) × (n ≡ length (encoded cs)) × (n ≤ most_bytes)
+ListSize cs (Err f) = IsFault f 10 0 × (all_readable cs ≡ true → length (encoded cs) ≤ most_bytes → ⊥)
 
 -- the list of cs was written at the start of xs, which left ys: its n bytes read back as cs
 pub record Listed (cs : List Command) (xs : List ℕ) (n : ℕ) (ys : List ℕ) : Type 0 where
@@ -57,7 +57,7 @@ pub record Listed (cs : List Command) (xs : List ℕ) (n : ℕ) (ys : List ℕ) 
 -- a command has no record that the reader takes, or the list does not fit; nothing was written
 pub record Unlisted (cs : List Command) (xs : List ℕ) (f : Fault) (ys : List ℕ) : Type 0 where
   pub fault : IsFault f 10 0
-  pub why : all_readable cs ≡ true → length (encoded cs) ≤ length xs → length xs ≤ 65536 → ⊥
+  pub why : all_readable cs ≡ true → length (encoded cs) ≤ length xs → length xs ≤ most_bytes → ⊥
   pub same : ys ≡ xs
 
 abbrev pub ListWritten : List Command → List ℕ → Result ℕ Fault → List ℕ → Type 0

@@ -2,7 +2,7 @@
 #![tactic(auto)]
 
 ghost use Rattle.std.specs.Prelude.{◌≡◌, ◌≤◌, true, map, length, MatchResult};
-ghost use Rattle.command_list.specs.Files.{is_accepted, encoded, file as file_said};
+ghost use Rattle.command_list.specs.Files.{most_bytes, is_accepted, encoded, file as file_said};
 ghost use Rattle.command_list.specs.Seen.{given_command};
 ghost use Rattle.list_file.specs.Passing.{Checked, Rewritten, ListSize, ListWritten, Listed, all_readable, RecordsKnown};
 
@@ -72,7 +72,7 @@ pub fn list_size(commands: &[Command]) -> Result<usize, Fault>
 fn write_all(commands: &[Command], bytes: &mut [u8]) -> Result<usize, Fault>
     requires readable { all_readable (map given_command commands.now) ≡ true }
     requires fits { length (encoded (map given_command commands.now)) ≤ length bytes.old }
-    requires short { length bytes.old ≤ 65536 }
+    requires short { length bytes.old ≤ most_bytes }
     ensures { MatchResult result (λ n. Listed (map given_command commands.now) bytes.old n bytes.new) (λ _. ⊥) }
 {
     let mut end = begin(bytes)?;

@@ -9,7 +9,7 @@ use Rattle.command_list.specs.declared.code.Code.TheVariants as code
 use Rattle.command_list.specs.Numbers.{bytes, total, Fit}
 use Rattle.command_list.specs.Commands.{Command, code_of, byte_of, fields, framed, record_of, size, in_range, readable}
 use Rattle.command_list.specs.Decoding.{codes, among, code_named, Decoded, takes, wrong, decode, decode_named, Front, ended, first, broken, sized, front}
-use Rattle.command_list.specs.Files.{Verdict, accepted, refused, after, followed, records, has_version, file, encoded}
+use Rattle.command_list.specs.Files.{most_bytes, Verdict, accepted, refused, after, followed, records, has_version, file, encoded}
 use Rattle.list_writer.proofs.Rows.{length_bytes}
 use Rattle.list_writer.proofs.Bytewise.{number_fit, Bytes, bytes_drop, bytes_take}
 use Rattle.command_list.proofs.Fronts.{said, front_whole, front_within}
@@ -234,7 +234,7 @@ file_is bs cs e =
     (λ f. absurd (refused_not (sym (cond-false _ _ _ f) ∙ e)))
     (cases_Bool (has_version bs))
 
-pub file_more : (bs : List ℕ) (cs : List Command) (c : Command) → file bs ≡ accepted cs → in_range c ≡ true → Fit (framed (code_of c) (fields c)) → length bs + size c ≤ 65536
+pub file_more : (bs : List ℕ) (cs : List Command) (c : Command) → file bs ≡ accepted cs → in_range c ≡ true → Fit (framed (code_of c) (fields c)) → length bs + size c ≤ most_bytes
     → file (bs ++ record_of c) ≡ accepted (cs ++ (c ∷ []))
 unfolding file
 file_more bs cs c e r f h =
@@ -245,7 +245,7 @@ file_more bs cs c e r f h =
     let la = length-append bs rs in
     let ld = length-drop 1 bs in
     let p = and_parts _ _ o.version in
-    let v : has_version (bs ++ rs) ≡ true = and_from _ _ (le-leb (length (bs ++ rs)) 65536 (omega arith)) (ap (λ b. eqb b 1) (get_or_append_left bs rs 0 0 (omega arith)) ∙ p.1) in
+    let v : has_version (bs ++ rs) ≡ true = and_from _ _ (le-leb (length (bs ++ rs)) most_bytes (omega arith)) (ap (λ b. eqb b 1) (get_or_append_left bs rs 0 0 (omega arith)) ∙ p.1) in
     let whole : front rs ≡ first c (length rs) = ap front (sym (append-nil rs)) ∙ front_record c [] r f ∙ ap (first c) (sym lr) in
     cond-true _ _ _ v
     ∙ ap (records (length (bs ++ rs)) 1) (drop-append-le 1 bs rs one)

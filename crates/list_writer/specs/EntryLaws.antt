@@ -7,7 +7,7 @@ use Rattle.command_list.specs.declared.command.BarrierType.{BarrierType}
 use Rattle.command_list.specs.declared.command.BarrierType.TheVariants.{Transition, Uav}
 use Rattle.command_list.specs.declared.command.Barrier.{Barrier}
 use Rattle.command_list.specs.Numbers.{Field, total, widths, values, number_at, numbers}
-use Rattle.command_list.specs.Commands.{unit, handle, entry, type_byte}
+use Rattle.command_list.specs.Commands.{unit, handle, entry, entry_widths, entry_width, type_byte}
 use Rattle.command_list.specs.Seen.{every, entry_numbers}
 use Rattle.command_list.specs.RowLaws.{then_is, count_every, count_entries}
 use Rattle.command_list.specs.Decoding.{repeated, type_of, barriers}
@@ -46,12 +46,12 @@ pub type_back : (n : ℕ) (t : BarrierType) → type_of n ≡ Some t → type_by
 type_back n t e = ⊎_elim (λ p. ap type_byte p.0 ∙ sym p.1) (λ p. ap type_byte p.0 ∙ sym p.1) (two_ways n 0 2 Transition Uav t e)
 
 -- the numbers of entries are those of the barriers that they name
-pub entries_back : (n at : ℕ) (ops : List ℕ) (es : List Barrier) → barriers (numbers (repeated n (1 ∷ 4 ∷ 4 ∷ 4 ∷ 4 ∷ [])) at ops) ≡ Some es
-    → values (flat_map entry es) ≡ numbers (repeated n (1 ∷ 4 ∷ 4 ∷ 4 ∷ 4 ∷ [])) at ops
+pub entries_back : (n at : ℕ) (ops : List ℕ) (es : List Barrier) → barriers (numbers (repeated n entry_widths) at ops) ≡ Some es
+    → values (flat_map entry es) ≡ numbers (repeated n entry_widths) at ops
 entries_back zero at ops es e = sym (ap (λ l. values (flat_map entry l)) (same_Some _ _ e))
 entries_back (suc n) at ops es e =
     let a = then_is (type_of (number_at 1 at ops)) _ es e in
-    let b = then_is (barriers (numbers (repeated n (1 ∷ 4 ∷ 4 ∷ 4 ∷ 4 ∷ [])) (at + 1 + 4 + 4 + 4 + 4) ops)) _ es a.2 in
+    let b = then_is (barriers (numbers (repeated n entry_widths) (at + 1 + 4 + 4 + 4 + 4) ops)) _ es a.2 in
     let ih = entries_back n (at + 1 + 4 + 4 + 4 + 4) ops b.0 b.1 in
     sym (ap (λ l. values (flat_map entry l)) (same_Some _ _ b.2))
     ∙ ap₂ (λ t l. t ∷ number_at 4 (at + 1) ops ∷ number_at 4 (at + 1 + 4) ops ∷ number_at 4 (at + 1 + 4 + 4) ops ∷ number_at 4 (at + 1 + 4 + 4 + 4) ops ∷ l) (type_back _ a.0 a.1) ih
@@ -62,7 +62,7 @@ unit_even u = refl
 pub handle_even : (h : ℕ) → total (handle h) ≡ 8
 handle_even h = refl
 
-pub entry_even : (e : Barrier) → total (entry e) ≡ 17
+pub entry_even : (e : Barrier) → total (entry e) ≡ entry_width
 entry_even e = refl
 
 pub units_read : (bs : List ℕ) (us : List ℕ) → Some (every 2 bs) ≡ Some us → values (flat_map unit us) ≡ numbers (widths (flat_map unit us)) 0 bs
@@ -77,5 +77,5 @@ handles_read bs hs e =
 
 pub entries_read : (bs : List ℕ) (es : List Barrier) → barriers (entry_numbers bs) ≡ Some es → values (flat_map entry es) ≡ numbers (widths (flat_map entry es)) 0 bs
 entries_read bs es e =
-    entries_back (length bs / 17) 0 bs es e
-    ∙ ap (λ ws. numbers ws 0 bs) (sym (widths_joined entry (1 ∷ 4 ∷ 4 ∷ 4 ∷ 4 ∷ []) (λ x. refl) es ∙ ap (λ k. repeated k (1 ∷ 4 ∷ 4 ∷ 4 ∷ 4 ∷ [])) (sym (count_entries bs es e))))
+    entries_back (length bs / entry_width) 0 bs es e
+    ∙ ap (λ ws. numbers ws 0 bs) (sym (widths_joined entry entry_widths (λ x. refl) es ∙ ap (λ k. repeated k entry_widths) (sym (count_entries bs es e))))

@@ -5,7 +5,7 @@ use Rattle.command_list.specs.declared.fault.Fault.{Fault}
 use Rattle.command_list.specs.declared.command.Fixed.{Fixed}
 use Rattle.command_list.specs.Numbers.{Field, bytes, total, Fit}
 use Rattle.command_list.specs.Commands.{Command, BeginEvent, OMSetRenderTargets, ResourceBarrier, framed, record_of, size, readable}
-use Rattle.command_list.specs.Files.{file, accepted}
+use Rattle.command_list.specs.Files.{most_bytes, file, accepted}
 use Rattle.command_list.specs.Seen.{IsFault, fixed_command}
 
 -- fs were written at the start of xs, which left ys; they took n bytes
@@ -16,7 +16,7 @@ pub record Laid (fs : List Field) (xs ys : List ℕ) (n : ℕ) : Type 0 where
 
 -- how many of so many bytes a list may use
 abbrev pub room : ℕ → ℕ
-room n = min n 65536
+room n = min n most_bytes
 
 -- behind the first n bytes of xs stands the record of a code and its fields, which ends at m; all else is as it was
 pub record Grew (xs : List ℕ) (n : ℕ) (k : Code) (fs : List Field) (m : ℕ) (ys : List ℕ) : Type 0 where
@@ -57,7 +57,7 @@ Written c xs n (Err f) ys = Unwritten c xs n f ys
 -- a list without commands was begun: its version stands first, and what is beyond it stays
 pub record Began (xs : List ℕ) (n : ℕ) (ys : List ℕ) : Type 0 where
   pub some : 0 < length xs
-  pub short : length xs ≤ 65536
+  pub short : length xs ≤ most_bytes
   pub ends : n ≡ 1
   pub wrote : ys ≡ 1 ∷ drop 1 xs
   pub reads : file (take n ys) ≡ accepted []
@@ -65,7 +65,7 @@ pub record Began (xs : List ℕ) (n : ℕ) (ys : List ℕ) : Type 0 where
 -- there are no bytes, or more than a list may have; nothing was written
 pub record Unbegun (xs : List ℕ) (f : Fault) (ys : List ℕ) : Type 0 where
   pub fault : IsFault f 10 0
-  pub why : 0 < length xs → length xs ≤ 65536 → ⊥
+  pub why : 0 < length xs → length xs ≤ most_bytes → ⊥
   pub same : ys ≡ xs
 
 abbrev pub Begun : List ℕ → Result ℕ Fault → List ℕ → Type 0

@@ -10,6 +10,8 @@ use command_list::code::Code;
 use command_list::command::{Barrier, Call, Fixed, Half};
 use command_list::fault::{FULL, Fault};
 use command_list::reader::MOST_BYTES;
+use command_list::record::MOST_ENTRIES;
+use command_list::row::Row;
 
 // Begins a list in the caller's bytes, of which there are 1 to 65536, and says where it ends.
 pub fn begin(bytes: &mut [u8]) -> Result<usize, Fault>
@@ -206,10 +208,10 @@ fn barriers_size<E: Listing<Barrier>>(entries: &E) -> Result<usize, Fault>
     ensures { Measured (ResourceBarrier (E.items entries.now)) result }
 {
     let n = entries.count();
-    if n == 0 || n > 3854 {
+    if n == 0 || n > MOST_ENTRIES {
         return Err(FULL);
     }
-    Ok(3 + 17 * n)
+    Ok(3 + Barrier::WIDTH * n)
 }
 
 // What can be recorded: a command, as it is given or as it was read.
