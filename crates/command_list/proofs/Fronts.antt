@@ -11,12 +11,10 @@ abbrev pub said : List ℕ → ℕ
 said bs = get_or bs 0 0 * 256 + get_or bs 1 0
 
 pub framing_none : (bs : List ℕ) → length bs ≡ 0 → framing bs ≡ no_frame
-unfolding framing
 framing_none [] e = refl
 framing_none (b ∷ bs) e = absurd (omega arith)
 
 pub framing_short : (bs : List ℕ) → 0 < length bs → length bs < 3 → framing bs ≡ cut
-unfolding framing
 framing_short [] h l = absurd (omega arith)
 framing_short (a ∷ []) h l = refl
 framing_short (a ∷ b ∷ []) h l = refl
@@ -24,7 +22,6 @@ framing_short (a ∷ b ∷ k ∷ bs) h l = absurd (omega arith)
 
 pub framing_cut : (bs : List ℕ) → 3 ≤ length bs → (said bs ≡ 0) ⊎ (length bs - 3 < said bs - 1)
     → framing bs ≡ cut
-unfolding framing
 framing_cut (a ∷ b ∷ k ∷ bs) l w =
     let no : (eqb (a * 256 + b) 0 || ltb (length bs) (a * 256 + b - 1)) ≡ true =
     ⊎_elim (λ e. or_left _ _ (eq-eqb (a * 256 + b) 0 e))
@@ -34,7 +31,6 @@ framing_cut _ l w = absurd (omega arith)
 
 pub framing_whole : (bs : List ℕ) → 3 ≤ length bs → 0 < said bs → said bs - 1 ≤ length bs - 3
     → framing bs ≡ frame (get_or bs 2 0) (take (said bs - 1) (drop 3 bs)) (2 + said bs)
-unfolding framing
 framing_whole (a ∷ b ∷ k ∷ bs) l p h =
     cond-false _ _ _
     (or_from _ _ (ne_eqb (a * 256 + b) 0 (λ z. omega arith))
@@ -56,12 +52,12 @@ framing_read bs n s l p h =
 pub front_whole : (bs : List ℕ) → 3 ≤ length bs → 0 < said bs → said bs - 1 ≤ length bs - 3
     → front bs
       ≡ sized (decode_named (code_named (get_or bs 2 0)) (take (said bs - 1) (drop 3 bs))) (2 + said bs)
+unfolding front
 front_whole bs l p h = ap read_frame (framing_whole bs l p h)
 
 -- a frame lies within the bytes, and takes three of them at least
 framing_within : (bs : List ℕ) (k : ℕ) (ops : List ℕ) (n : ℕ) → framing bs ≡ frame k ops n
     → (3 ≤ n) × (n ≤ length bs)
-unfolding framing
 framing_within (a ∷ b ∷ k ∷ bs) c ops n e =
     ⊎_elim
     (λ t. absurd (cut_frame (sym (cond-true _ _ _ t) ∙ e)))
@@ -105,6 +101,7 @@ within_frame cut l c n h e = absurd (let z : ◌≡◌ {A = ℕ} 0 1 = cc in ome
 
 -- a record lies within what is left, and takes three bytes at least
 pub front_within : (bs : List ℕ) (c : Command) (n : ℕ) → front bs ≡ first c n → (3 ≤ n) × (n ≤ length bs)
+unfolding front
 front_within bs c n e = within_frame (framing bs) (length bs) c n (framing_within bs) e
 
 -- why a file has no version

@@ -158,7 +158,7 @@ pub data Framing : Type 0 where
   cut : Framing
 
 -- a frame is two bytes, which tell the length of what follows them, a code and its operands
-unfoldable pub framing : List ℕ → Framing
+abbrev pub framing : List ℕ → Framing
 framing [] = no_frame
 framing (hi ∷ lo ∷ k ∷ bs) =
     cond (hi * 256 + lo == 0 || nat_lt (length bs) (hi * 256 + lo - 1)) cut
@@ -171,5 +171,5 @@ read_frame no_frame = ended
 read_frame (frame k ops n) = sized (decode_named (code_named k) ops) n
 read_frame cut = broken 22
 
-abbrev pub front : List ℕ → Front
+unfoldable pub front : List ℕ → Front
 front bs = read_frame (framing bs)

@@ -47,6 +47,7 @@ impl<'a> Frame<'a> {
 }
 
 // The record at the front of the bytes at a place of a file, with the bytes that it takes; none at the end.
+#[tactic(auto, unfolding(crate::specs::Decoding::front))]
 fn front(left: &[u8], place: usize) -> Result<Option<(Record, usize)>, Fault>
     ensures says { seen_front result ≡ front_said left.now }
     ensures place { IfErr result (λ f. f.place ≡ place) }
