@@ -1,5 +1,5 @@
 -- The front of what is left of a file.
-use Rattle.std.proofs.Common.{◌≡◌, ℕ, zero, suc, ◌+◌, ◌-◌, ◌*◌, ◌<◌, ◌≤◌, true, false, ◌||◌, eqb, ltb, ◌⊎◌, List, [], ◌∷◌, length, get_or, take, drop, Option, sym, refl, ap, ◌∙◌, subst, ⊎_elim, arith}
+use Rattle.std.proofs.Common.{◌≡◌, ℕ, zero, suc, ◌+◌, ◌-◌, ◌*◌, ◌<◌, ◌≤◌, true, false, ◌||◌, eqb, ltb, ◌⊎◌, List, [], ◌∷◌, length, get_or, take, drop, sym, refl, ap, ◌∙◌, ⊎_elim, arith}
 use Rattle.std.proofs.lemmas.List.{take_rest}
 use Rattle.std.proofs.lemmas.Bool.{cond-true, cond-false, eq-eqb, ne_eqb, lt-ltb, le-ltb, or_left, or_right, or_from, or_parts, and_left, and_right, lt-leb, eqb-false, ltb-false, cases_Bool}
 use Rattle.command_list.specs.Commands.{Command}
@@ -40,7 +40,7 @@ framing_whole _ l p h = absurd (omega arith)
 -- a frame as it is cut from what follows the code
 pub framing_read : (bs : List ℕ) (n : ℕ) → n ≡ said bs → 3 ≤ length bs → 0 < n → n - 1 ≤ length bs - 3
     → framing bs
-      ≡ frame (get_or bs 2 0) (take (n - 1 - 0) (take (length bs - 3) (drop 3 bs))) (2 + n)
+    ≡ frame (get_or bs 2 0) (take (n - 1 - 0) (take (length bs - 3) (drop 3 bs))) (2 + n)
 framing_read bs n s l p h =
     let own : take (said bs - 1 - 0) (take (length bs - 3) (drop 3 bs)) ≡ take (said bs - 1) (drop 3 bs) =
     ap (take (said bs - 1 - 0)) (take_rest bs 3) ∙ ap (λ m. take m (drop 3 bs)) (omega arith) in
@@ -51,7 +51,7 @@ framing_read bs n s l p h =
 -- what a list file says of a whole frame
 pub front_whole : (bs : List ℕ) → 3 ≤ length bs → 0 < said bs → said bs - 1 ≤ length bs - 3
     → front bs
-      ≡ sized (decode_named (code_named (get_or bs 2 0)) (take (said bs - 1) (drop 3 bs))) (2 + said bs)
+    ≡ sized (decode_named (code_named (get_or bs 2 0)) (take (said bs - 1) (drop 3 bs))) (2 + said bs)
 unfolding front
 front_whole bs l p h = ap read_frame (framing_whole bs l p h)
 

@@ -13,7 +13,8 @@ abbrev pub after : Command → Verdict → Verdict
 after c (accepted cs) = accepted (c ∷ cs)
 after c (refused n p) = refused n p
 
--- what follows the front of a file at a place, where more tells what follows a record of so many bytes
+-- what follows the front of a file at a place, where more tells what follows a record of so many
+-- bytes
 abbrev pub followed : Front → ℕ → (ℕ → Verdict) → Verdict
 followed ended at more = accepted []
 followed (first c n) at more = after c (more n)

@@ -1,4 +1,5 @@
-// Operand readers: what the operand bytes of each code say.
+// Operand readers: what the operand bytes of each code say. Each is handed the place of the record,
+// where it refuses.
 ghost use Rattle.std.specs.Prelude.{◌≡◌, ℕ, ◌+◌, ◌*◌, ◌/◌, ◌<◌, ◌≤◌, true, false, List, length, take, drop, Option, Some, None, MatchResult, ◌≢◌, ◌⊎◌};
 ghost use Rattle.std.specs.List.{slice_get};
 ghost use Rattle.command_list.specs.declared.code.Code.TheVariants as code;
@@ -24,14 +25,13 @@ fn part<const N: usize>(bytes: &[u8], at: usize) -> [u8; N]
     part
 }
 
-// A number of the file, its highest byte first. The bytes and the place stand as two operands, as in `slice.get(i)`: a
-// struct of both would be made for each number.
+/// A number of the file, its highest byte first.
 pub trait Wide: Sized {
     ghost value: { Self → ℕ };
 
     ghost wide: { ℕ };
 
-    // The number that begins at a place.
+    /// The number that begins at a place.
     fn get(bytes: &[u8], at: usize) -> Self
         requires { at + wide ≤ length bytes.now }
         ensures { value result ≡ number_at wide at bytes.now };
@@ -47,7 +47,6 @@ impl Wide for u8 {
     }
 }
 
-// One instance for each width, since each asks the library of its own type.
 impl Wide for u16 {
     ghost value = { λ n. n };
 
@@ -81,8 +80,8 @@ impl Wide for u64 {
 // The operands of a record at a place take this many bytes.
 fn width(operands: &[u8], place: usize, n: usize) -> Result<(), Fault>
     ensures { MatchResult result
-      (λ _. length operands.now ≡ n)
-      (λ f. IsFault f 24 place × (length operands.now ≢ n)) }
+        (λ _. length operands.now ≡ n)
+        (λ f. IsFault f 24 place × (length operands.now ≢ n)) }
 {
     if operands.len() == n {
         Ok(())
@@ -105,8 +104,8 @@ fn require(ok: bool, place: usize) -> Result<(), Fault>
 // A flag is 0 or 1.
 fn flag(byte: u8, place: usize) -> Result<bool, Fault>
     ensures { MatchResult result
-      (λ on. flag_of byte ≡ Some on)
-      (λ f. IsFault f 25 place × (flag_of byte ≡ None)) }
+        (λ on. flag_of byte ≡ Some on)
+        (λ f. IsFault f 25 place × (flag_of byte ≡ None)) }
 {
     match byte {
         0 => Ok(false),
@@ -118,8 +117,8 @@ fn flag(byte: u8, place: usize) -> Result<bool, Fault>
 // The kind of an indirect call: a draw (0) or a dispatch (2).
 fn indirect_half(byte: u8, place: usize) -> Result<Half, Fault>
     ensures { MatchResult result
-      (λ h. kind_of byte ≡ Some h)
-      (λ f. IsFault f 25 place × (kind_of byte ≡ None)) }
+        (λ h. kind_of byte ≡ Some h)
+        (λ f. IsFault f 25 place × (kind_of byte ≡ None)) }
 {
     match byte {
         0 => Ok(Half::Graphics),
@@ -131,8 +130,8 @@ fn indirect_half(byte: u8, place: usize) -> Result<Half, Fault>
 // The special slot of an indirect call: below 64, or 255 for the shared command signature.
 fn special_slot(byte: u8, place: usize) -> Result<Option<u8>, Fault>
     ensures { MatchResult result
-      (λ s. (special_of byte ≡ s) × (is_special s ≡ true))
-      (λ f. IsFault f 25 place × (is_special (special_of byte) ≡ false)) }
+        (λ s. (special_of byte ≡ s) × (is_special s ≡ true))
+        (λ f. IsFault f 25 place × (is_special (special_of byte) ≡ false)) }
 {
     if byte == 255 {
         return Ok(None);
@@ -144,8 +143,8 @@ fn special_slot(byte: u8, place: usize) -> Result<Option<u8>, Fault>
 // Operands that are one number of four bytes.
 fn word(operands: &[u8], place: usize) -> Result<u32, Fault>
     ensures { MatchResult result
-      (λ n. (length operands.now ≡ 4) × (n ≡ number_at 4 0 operands.now))
-      (λ f. IsFault f 24 place × (length operands.now ≢ 4)) }
+        (λ n. (length operands.now ≡ 4) × (n ≡ number_at 4 0 operands.now))
+        (λ f. IsFault f 24 place × (length operands.now ≢ 4)) }
 {
     width(operands, place, 4)?;
     Ok(Wide::get(operands, 0))
@@ -154,9 +153,9 @@ fn word(operands: &[u8], place: usize) -> Result<u32, Fault>
 // Operands that are a root slot and an address.
 fn slot_address(operands: &[u8], place: usize) -> Result<(u8, u64), Fault>
     ensures { MatchResult result
-      (λ p. (length operands.now ≡ 9) × (p.0 ≡ number_at 1 0 operands.now)
+        (λ p. (length operands.now ≡ 9) × (p.0 ≡ number_at 1 0 operands.now)
         × (p.0 < 64) × (p.1 ≡ number_at 8 1 operands.now))
-      (λ f. (IsFault f 24 place × (length operands.now ≢ 9))
+        (λ f. (IsFault f 24 place × (length operands.now ≢ 9))
         ⊎ (IsFault f 25 place × (length operands.now ≡ 9) × (64 ≤ number_at 1 0 operands.now))) }
 {
     width(operands, place, 9)?;
@@ -181,8 +180,9 @@ fn read_descriptor_heaps(operands: &[u8], place: usize) -> Result<Record, Fault>
 }
 
 fn read_root_signature(half: Half, operands: &[u8], place: usize) -> Result<Record, Fault>
-    ensures { Reads (of_half half code.SetGraphicsRootSignature code.SetComputeRootSignature)
-      operands.now place result }
+    ensures { Reads
+        (of_half half code.SetGraphicsRootSignature code.SetComputeRootSignature)
+        operands.now place result }
 {
     let signature = word(operands, place)?;
     Ok(Record::Fixed(Fixed::SetRootSignature { half, signature }))
@@ -215,8 +215,9 @@ fn read_vertex_buffers(operands: &[u8], place: usize) -> Result<Record, Fault>
 }
 
 fn read_constant(half: Half, operands: &[u8], place: usize) -> Result<Record, Fault>
-    ensures { Reads (of_half half code.SetGraphicsRoot32BitConstant code.SetComputeRoot32BitConstant)
-      operands.now place result }
+    ensures { Reads
+        (of_half half code.SetGraphicsRoot32BitConstant code.SetComputeRoot32BitConstant)
+        operands.now place result }
 {
     width(operands, place, 6)?;
     let slot = Wide::get(operands, 0);
@@ -231,8 +232,9 @@ fn read_constant(half: Half, operands: &[u8], place: usize) -> Result<Record, Fa
 }
 
 fn read_table(half: Half, operands: &[u8], place: usize) -> Result<Record, Fault>
-    ensures { Reads (of_half half code.SetGraphicsRootDescriptorTable code.SetComputeRootDescriptorTable)
-      operands.now place result }
+    ensures { Reads
+        (of_half half code.SetGraphicsRootDescriptorTable code.SetComputeRootDescriptorTable)
+        operands.now place result }
 {
     let (slot, address) = slot_address(operands, place)?;
     Ok(Record::Fixed(Fixed::SetRootDescriptorTable {
@@ -243,8 +245,9 @@ fn read_table(half: Half, operands: &[u8], place: usize) -> Result<Record, Fault
 }
 
 fn read_view(half: Half, operands: &[u8], place: usize) -> Result<Record, Fault>
-    ensures { Reads (of_half half code.SetGraphicsRootConstantBufferView code.SetComputeRootConstantBufferView)
-      operands.now place result }
+    ensures { Reads
+        (of_half half code.SetGraphicsRootConstantBufferView code.SetComputeRootConstantBufferView)
+        operands.now place result }
 {
     let (slot, address) = slot_address(operands, place)?;
     Ok(Record::Fixed(Fixed::SetRootConstantBufferView {
@@ -370,7 +373,7 @@ fn read_barriers(operands: &[u8], place: usize) -> Result<Record, Fault>
     Ok(Record::ResourceBarrier(entries))
 }
 
-// The record that a code and its operands make.
+/// The record that a code and its operands make; refused with 24 or 25 at the record's place.
 pub fn read_operands(op: Code, operands: &[u8], place: usize) -> Result<Record, Fault>
     ensures { Reads op operands.now place result }
 {

@@ -1,4 +1,3 @@
-// Goes through a list file record by record.
 ghost use Rattle.std.specs.Prelude.{◌≡◌, ℕ, ◌+◌, ◌≤◌, true, false, length, MatchResult, IfErr};
 ghost use Rattle.command_list.specs.Decoding.{front as front_said, framing};
 ghost use Rattle.command_list.specs.Files.{has_version};
@@ -10,7 +9,7 @@ use crate::fault::{Fault, Number};
 use crate::fields::read_operands;
 use crate::record::Record;
 
-// The longest list file in bytes.
+/// The longest list file in bytes.
 pub const MOST_BYTES: usize = 65536;
 
 /// A record before its code and its operands are read: it is told apart from its neighbours alone.
@@ -23,8 +22,9 @@ pub struct Frame<'a> {
 }
 
 impl<'a> Frame<'a> {
-    /// The frame at the front of the bytes at a place of a file, and how many bytes it takes in all; none where no
-    /// bytes are left. One that is cut short or of length 0 is refused with 22 at the place.
+    /// The frame at the front of the bytes at a place of a file, and how many bytes it takes in
+    /// all; none where no bytes are left. One that is cut short or of length 0 is refused with 22
+    /// at the place.
     pub fn take(bytes: &'a [u8], place: usize) -> Result<Option<(Frame<'a>, usize)>, Fault>
         ensures { Framed (framing bytes.now) place result }
     {
@@ -46,7 +46,8 @@ impl<'a> Frame<'a> {
     }
 }
 
-// The record at the front of the bytes at a place of a file, with the bytes that it takes; none at the end.
+// The record at the front of the bytes at a place of a file, with the bytes that it takes; none at
+// the end.
 #[tactic(auto, unfolding(crate::specs::Decoding::front))]
 fn front(left: &[u8], place: usize) -> Result<Option<(Record, usize)>, Fault>
     ensures says { seen_front result ≡ front_said left.now }
@@ -59,7 +60,7 @@ fn front(left: &[u8], place: usize) -> Result<Option<(Record, usize)>, Fault>
     Ok(Some((read_operands(code, frame.operands, place)?, size)))
 }
 
-// A list file and the place of its next record.
+/// Goes through a list file record by record.
 #[derive(Drop)]
 pub struct Reader<'a> {
     file: &'a [u8],
@@ -68,9 +69,12 @@ pub struct Reader<'a> {
 }
 
 impl<'a> Reader<'a> {
-    // A reader before the first record of a file that is short enough and of the version.
+    /// A reader before the first record. A file that is empty, too long or of another version is
+    /// refused with 21 at 0.
     pub fn open(file: &'a [u8]) -> Result<Reader<'a>, Fault>
-        ensures { MatchResult result (λ o. (has_version file.now ≡ true) × (o.file.now ≡ file.now) × (o.at ≡ 1)) (λ f. (has_version file.now ≡ false) × IsFault f 21 0) }
+        ensures { MatchResult result
+            (λ o. (has_version file.now ≡ true) × (o.file.now ≡ file.now) × (o.at ≡ 1))
+            (λ f. (has_version file.now ≡ false) × IsFault f 21 0) }
     {
         if file.len() > MOST_BYTES || file.first() != Some(&1) {
             return Err(Number::Version.at(0));
@@ -78,7 +82,7 @@ impl<'a> Reader<'a> {
         Ok(Reader { file, at: 1 })
     }
 
-    // Where the next record begins.
+    /// Where the next record begins, in bytes from the start of the file.
     pub fn place(&self) -> usize
         ensures { result ≡ self.now.at }
     {
@@ -86,7 +90,9 @@ impl<'a> Reader<'a> {
         *at
     }
 
-    // The next record; none at the end of the file. A refusal leaves the reader where it stands.
+    /// The next record; none at the end of the file. A record is refused with 22 (cut short or of
+    /// length 0), 23 (code), 24 (length) or 25 (operand) at its own place. A refusal leaves the
+    /// reader where it stands, so each later call answers the same.
     pub fn next(&mut self) -> Result<Option<Record<'a>>, Fault>
         ensures same { self.new.file.now ≡ self.old.file.now }
         ensures gives { seen_step result self.new.at ≡ step_at self.old.file.now self.old.at }

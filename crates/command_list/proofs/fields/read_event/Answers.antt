@@ -11,15 +11,17 @@ pub returns-in_err-require : goal.returns-in_err-require
 returns-in_err-require c =
     let p = err_from_is_err_and c.from_residual.result c.from_residual.ensures.1 in
     let no = c.in_err-require.ensures in
-    rw (p.1, p.2)
-    (ap wrong no.0.0
-    ∙ sym (decode_event c.args.operands.now (omega (arith, c.if-n-eq0.false)) c.if-n-ne0.false
-    ∙ cond-false _ _ _ (ap (λ n. eqb n 0) (sym c.get.ensures) ∙ no.1)),
-    no.0.1)
+    rw (p.1, p.2) (
+      ap wrong no.0.0
+          ∙ sym (decode_event c.args.operands.now (omega (arith, c.if-n-eq0.false)) c.if-n-ne0.false
+          ∙ cond-false _ _ _ (ap (λ n. eqb n 0) (sym c.get.ensures) ∙ no.1)),
+      no.0.1,
+    )
 
 pub returns : goal.returns
-returns c =
-    (ap (λ bs. takes (BeginEvent (every 2 bs))) c.over.ensures
-    ∙ sym (decode_event c.args.operands.now (omega (arith, c.if-n-eq0.false)) c.if-n-ne0.false
-    ∙ cond-true _ _ _ (ap (λ n. eqb n 0) (sym c.get.ensures) ∙ c.in_ok-require.ensures)),
-    search rules)
+returns c = (
+  ap (λ bs. takes (BeginEvent (every 2 bs))) c.over.ensures
+      ∙ sym (decode_event c.args.operands.now (omega (arith, c.if-n-eq0.false)) c.if-n-ne0.false
+      ∙ cond-true _ _ _ (ap (λ n. eqb n 0) (sym c.get.ensures) ∙ c.in_ok-require.ensures)),
+  search rules,
+)

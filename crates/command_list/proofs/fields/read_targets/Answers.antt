@@ -12,13 +12,15 @@ pub returns-in_err-require-in-len1-up : goal.returns-in_err-require-in-len1-up
 returns-in_err-require-in-len1-up c =
     let p = err_from_is_err_and c.from_residual-in_err-require-in-len1-up.result c.from_residual-in_err-require-in-len1-up.ensures.1 in
     let no = c.in_err-require-in-len1-up.ensures in
-    rw (p.1, p.2)
-    (ap wrong no.0.0
-    ∙ sym (decode_targets _ c.args.operands.now refl c.in_ok-width-in-len1-up.ensures ∙ cond-false _ _ _ no.1),
-    no.0.1)
+    rw (p.1, p.2) (
+      ap wrong no.0.0
+          ∙ sym (decode_targets _ c.args.operands.now refl c.in_ok-width-in-len1-up.ensures ∙ cond-false _ _ _ no.1),
+      no.0.1,
+    )
 
 pub returns-in_ok-require-in-len1-up : goal.returns-in_ok-require-in-len1-up
-returns-in_ok-require-in-len1-up c =
-    (ap (λ l. takes (OMSetRenderTargets (every 8 l))) (c.over.ensures ∙ take_rest c.args.operands.now 1)
-    ∙ sym (decode_targets _ c.args.operands.now refl c.in_ok-width-in-len1-up.ensures ∙ cond-true _ _ _ c.in_ok-require-in-len1-up.ensures),
-    search rules)
+returns-in_ok-require-in-len1-up c = (
+  ap (λ l. takes (OMSetRenderTargets (every 8 l))) (c.over.ensures ∙ take_rest c.args.operands.now 1)
+      ∙ sym (decode_targets _ c.args.operands.now refl c.in_ok-width-in-len1-up.ensures ∙ cond-true _ _ _ c.in_ok-require-in-len1-up.ensures),
+  search rules,
+)
