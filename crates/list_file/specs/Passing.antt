@@ -72,4 +72,4 @@ RecordsKnown =
     (c : Command) →
     (readable c ≡ true → Fit (fields c) → front (record_of c) ≡ first c (size c))
     × ((bs : List ℕ) → ((i : ℕ) → slice_index bs i < 256) → front bs ≡ first c (length bs)
-      → (readable c ≡ true) × (bs ≡ record_of c))
+    → (readable c ≡ true) × (bs ≡ record_of c))

@@ -76,7 +76,7 @@ fn write_all(commands: &[Command], bytes: &mut [u8]) -> Result<usize, Fault>
     requires fits { length (encoded (map given_command commands.now)) ≤ length bytes.old }
     requires short { length bytes.old ≤ most_bytes }
     ensures { MatchResult result
-      (λ n. Listed (map given_command commands.now) bytes.old n bytes.new) (λ _. ⊥) }
+        (λ n. Listed (map given_command commands.now) bytes.old n bytes.new) (λ _. ⊥) }
 {
     let mut end = begin(bytes)?;
     for command in commands {

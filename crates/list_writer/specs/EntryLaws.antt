@@ -63,8 +63,8 @@ entries_back (suc n) at ops es e =
     let ih = entries_back n (at + 1 + 4 + 4 + 4 + 4) ops b.0 b.1 in
     sym (ap (λ l. values (flat_map entry l)) (same_Some _ _ b.2))
     ∙ ap₂ (λ t l. t ∷ number_at 4 (at + 1) ops ∷ number_at 4 (at + 1 + 4) ops
-        ∷ number_at 4 (at + 1 + 4 + 4) ops ∷ number_at 4 (at + 1 + 4 + 4 + 4) ops ∷ l)
-      (type_back _ a.0 a.1) ih
+    ∷ number_at 4 (at + 1 + 4 + 4) ops ∷ number_at 4 (at + 1 + 4 + 4 + 4) ops ∷ l)
+    (type_back _ a.0 a.1) ih
 
 pub unit_even : (u : ℕ) → total (unit u) ≡ 2
 unit_even u = refl
@@ -82,8 +82,8 @@ units_read bs us e =
     values_units us
     ∙ sym same
     ∙ ap (λ ws. numbers ws 0 bs)
-      (sym (widths_joined unit (2 ∷ []) (λ u. refl) us
-      ∙ ap (λ k. repeated k (2 ∷ [])) (sym (count_every 2 bs us e))))
+    (sym (widths_joined unit (2 ∷ []) (λ u. refl) us
+    ∙ ap (λ k. repeated k (2 ∷ [])) (sym (count_every 2 bs us e))))
 
 pub handles_read : (bs : List ℕ) (hs : List ℕ) → Some (every 8 bs) ≡ Some hs
     → values (flat_map handle hs) ≡ numbers (widths (flat_map handle hs)) 0 bs
@@ -92,13 +92,13 @@ handles_read bs hs e =
     values_handles hs
     ∙ sym same
     ∙ ap (λ ws. numbers ws 0 bs)
-      (sym (widths_joined handle (8 ∷ []) (λ h. refl) hs
-      ∙ ap (λ k. repeated k (8 ∷ [])) (sym (count_every 8 bs hs e))))
+    (sym (widths_joined handle (8 ∷ []) (λ h. refl) hs
+    ∙ ap (λ k. repeated k (8 ∷ [])) (sym (count_every 8 bs hs e))))
 
 pub entries_read : (bs : List ℕ) (es : List Barrier) → barriers (entry_numbers bs) ≡ Some es
     → values (flat_map entry es) ≡ numbers (widths (flat_map entry es)) 0 bs
 entries_read bs es e =
     entries_back (length bs / entry_width) 0 bs es e
     ∙ ap (λ ws. numbers ws 0 bs)
-      (sym (widths_joined entry entry_widths (λ x. refl) es
-      ∙ ap (λ k. repeated k entry_widths) (sym (count_entries bs es e))))
+    (sym (widths_joined entry entry_widths (λ x. refl) es
+    ∙ ap (λ k. repeated k entry_widths) (sym (count_entries bs es e))))

@@ -92,7 +92,7 @@ pub trait Entry: Operands + Row {
 
     // Entries that were read have the numbers of the bytes that they were read from.
     ghost as_read: { (bs : List ℕ) (xs : List Self) → Self.rows bs ≡ Some xs
-      → values (flat_map Self.laid xs) ≡ numbers (widths (flat_map Self.laid xs)) 0 bs };
+        → values (flat_map Self.laid xs) ≡ numbers (widths (flat_map Self.laid xs)) 0 bs };
 }
 
 impl Entry for u16 {

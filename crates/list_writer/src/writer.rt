@@ -104,7 +104,7 @@ fn record_size(fixed: Fixed) -> usize
 #[inline(always)]
 fn append_in_range(bytes: &mut [u8], end: usize, fixed: Fixed) -> Result<usize, Fault>
     ensures { Appended bytes.old end (code_of (fixed_command fixed)) (fields (fixed_command fixed))
-      result bytes.new }
+        result bytes.new }
 {
     match fixed {
         Fixed::EndEvent => append_row(bytes, end, 3, Code::EndEvent, ()),
