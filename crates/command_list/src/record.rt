@@ -1,8 +1,5 @@
 ghost use Rattle.std.specs.Prelude.{◌≡◌, ◌+◌, ◌*◌, ◌/◌, ◌<◌, ◌≤◌, ℕ, List, length, is_some, if◌then◌else◌, Option, Some, None, nat_lt};
 ghost use Rattle.std.specs.List.{slice_get};
-ghost use Rattle.command_list.specs.Numbers.{number_at};
-ghost use Rattle.command_list.specs.Decoding.{barriers};
-ghost use Rattle.command_list.specs.Seen.{every, entry_at, entry_numbers};
 
 use crate::command::{Barrier, Call};
 use crate::row::Row;
