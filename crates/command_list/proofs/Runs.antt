@@ -7,8 +7,8 @@ use Rattle.std.proofs.lemmas.Bool.{cond-true, eq-eqb, lt-ltb, and_from}
 use Rattle.command_list.specs.declared.command.Barrier.{Barrier}
 use Rattle.command_list.specs.declared.code.Code.TheVariants as code
 use Rattle.command_list.specs.Numbers.{number_at, numbers}
-use Rattle.command_list.specs.Commands.{BeginEvent, OMSetRenderTargets, ResourceBarrier, ends_with_zero}
-use Rattle.command_list.specs.Decoding.{sum, repeated, barriers, then, takes, wrong, checked, decode}
+use Rattle.command_list.specs.Commands.{entry_widths, entry_width, sum, BeginEvent, OMSetRenderTargets, ResourceBarrier, ends_with_zero}
+use Rattle.command_list.specs.Decoding.{repeated, barriers, then, takes, wrong, checked, decode}
 use Rattle.command_list.specs.RowLaws.{length_every, count_barriers}
 use Rattle.command_list.specs.Seen.{every, entry_numbers, entries_of}
 
@@ -55,10 +55,10 @@ taken_barriers : (o : Option (List Barrier)) → ((es : List Barrier) → o ≡ 
 taken_barriers None h = refl
 taken_barriers (Some es) h = cond-true _ _ _ (lt-ltb 0 (length es) (h es refl))
 
-pub decode_barriers : (bs : List ℕ) → 0 < length bs → length bs % 17 ≡ 0 → decode code.ResourceBarrier bs ≡ cond (is_some (barriers (entry_numbers bs))) (takes (ResourceBarrier (entries_of bs))) (wrong 25)
+pub decode_barriers : (bs : List ℕ) → 0 < length bs → length bs % entry_width ≡ 0 → decode code.ResourceBarrier bs ≡ cond (is_some (barriers (entry_numbers bs))) (takes (ResourceBarrier (entries_of bs))) (wrong 25)
 decode_barriers bs h e =
-    cond-true _ _ _ (and_from _ _ (lt-ltb 0 (length bs) h) (eq-eqb (length bs % 17) 0 e))
-    ∙ taken_barriers (barriers (entry_numbers bs)) (λ es s. let n = count_barriers (length bs / 17) 0 bs es s in omega arith)
+    cond-true _ _ _ (and_from _ _ (lt-ltb 0 (length bs) h) (eq-eqb (length bs % entry_width) 0 e))
+    ∙ taken_barriers (barriers (entry_numbers bs)) (λ es s. let n = count_barriers (length bs / entry_width) 0 bs es s in omega arith)
 
 pub sum_repeated : (n : ℕ) (ws : List ℕ) → sum (repeated n ws) ≡ n * sum ws
 sum_repeated zero ws = sym (zero-mul (sum ws))
@@ -81,14 +81,14 @@ numbers_take (w ∷ ws) at m p h =
     let d : drop at (take m p) ≡ take (m - at) (drop at p) = ap (λ k. drop at (take k p)) far ∙ drop-take at (m - at) p in
     ap₂ (λ x l. x ∷ l) (ap (λ l. number_from_digits 256 (take w l)) d ∙ ap (number_from_digits 256) (take-take w (m - at) (drop at p) (omega arith))) (numbers_take ws (at + w) m p (omega arith))
 
-pub whole_entries : (n : ℕ) (p : List ℕ) → n ≡ length p / 17 → entry_numbers (take (17 * n - 0) (drop 0 p)) ≡ entry_numbers p
+pub whole_entries : (n : ℕ) (p : List ℕ) → n ≡ length p / entry_width → entry_numbers (take (entry_width * n - 0) (drop 0 p)) ≡ entry_numbers p
 whole_entries n p e =
-    let q : take (17 * n - 0) (drop 0 p) ≡ take (17 * n) p = cut (17 * n) p in
-    let l : length (take (17 * n) p) ≡ 17 * n = length-take-le (17 * n) p (omega arith) in
-    let same : length (take (17 * n) p) / 17 ≡ length p / 17 = ap (λ k. k / 17) l ∙ mul-div_right n {m = 17} (omega arith) ∙ e in
+    let q : take (entry_width * n - 0) (drop 0 p) ≡ take (entry_width * n) p = cut (entry_width * n) p in
+    let l : length (take (entry_width * n) p) ≡ entry_width * n = length-take-le (entry_width * n) p (omega arith) in
+    let same : length (take (entry_width * n) p) / entry_width ≡ length p / entry_width = ap (λ k. k / entry_width) l ∙ mul-div_right n {m = entry_width} (omega arith) ∙ e in
     ap entry_numbers q
-    ∙ ap (λ k. numbers (repeated k (1 ∷ 4 ∷ 4 ∷ 4 ∷ 4 ∷ [])) 0 (take (17 * n) p)) same
-    ∙ numbers_take (repeated (length p / 17) (1 ∷ 4 ∷ 4 ∷ 4 ∷ 4 ∷ [])) 0 (17 * n) p (let s = sum_repeated (length p / 17) (1 ∷ 4 ∷ 4 ∷ 4 ∷ 4 ∷ []) in omega arith)
+    ∙ ap (λ k. numbers (repeated k entry_widths) 0 (take (entry_width * n) p)) same
+    ∙ numbers_take (repeated (length p / entry_width) entry_widths) 0 (entry_width * n) p (let s = sum_repeated (length p / entry_width) entry_widths in omega arith)
 
-pub whole_length : (n : ℕ) (p : List ℕ) → n ≡ length p / 17 → length (take (17 * n - 0) (drop 0 p)) % 17 ≡ 0
-whole_length n p e = ap (λ k. k % 17) (ap length (cut (17 * n) p) ∙ length-take-le (17 * n) p (omega arith)) ∙ mul-mod_right 17 n
+pub whole_length : (n : ℕ) (p : List ℕ) → n ≡ length p / entry_width → length (take (entry_width * n - 0) (drop 0 p)) % entry_width ≡ 0
+whole_length n p e = ap (λ k. k % entry_width) (ap length (cut (entry_width * n) p) ∙ length-take-le (entry_width * n) p (omega arith)) ∙ mul-mod_right entry_width n

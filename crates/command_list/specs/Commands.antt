@@ -1,5 +1,5 @@
 -- The commands of a list, and the operands that each is written with.
-use Rattle.std.specs.Prelude.{ℕ, ◌+◌, Bool, true, false, ◌&&◌, List, [], ◌∷◌, length, Some, None, Option, ◌==◌, nat_le, nat_lt}
+use Rattle.std.specs.Prelude.{ℕ, ◌+◌, ◌/◌, Bool, true, false, ◌&&◌, List, [], ◌∷◌, length, Some, None, Option, ◌==◌, nat_le, nat_lt}
 use Rattle.std.specs.List.{flat_map}
 use Rattle.command_list.specs.declared.command.Half.{Half}
 use Rattle.command_list.specs.declared.command.Half.TheVariants.{Graphics, Compute}
@@ -35,11 +35,17 @@ pub data Command : Type 0 where
   -- left, top, right, bottom
   RSSetScissorRects : ℕ → ℕ → ℕ → ℕ → Command
   ResourceBarrier : List Barrier → Command
-  -- vertex count, instance count, first vertex, first instance
+  -- how many vertices and instances, and the first of each
   DrawInstanced : ℕ → ℕ → ℕ → ℕ → Command
   Dispatch : ℕ → ℕ → ℕ → Command
-  -- a draw (graphics) or a dispatch (compute), the special slot of an own signature, count, buffer, offset
+  -- a draw (graphics) or a dispatch (compute), the special slot of its command signature, count,
+  -- buffer, offset
   ExecuteIndirect : Half → Option ℕ → ℕ → ℕ → ℕ → Command
+
+-- how many bytes numbers of these widths take
+abbrev pub sum : List ℕ → ℕ
+sum [] = 0
+sum (w ∷ ws) = w + sum ws
 
 -- the code of a call that each half has for itself
 abbrev pub of_half : {A : Type 0} → Half → A → A → A
@@ -50,13 +56,17 @@ abbrev pub code_of : Command → Code
 code_of (BeginEvent us) = code.BeginEvent
 code_of EndEvent = code.EndEvent
 code_of (SetDescriptorHeaps on) = code.SetDescriptorHeaps
-code_of (SetRootSignature h s) = of_half h code.SetGraphicsRootSignature code.SetComputeRootSignature
+code_of (SetRootSignature h s) =
+    of_half h code.SetGraphicsRootSignature code.SetComputeRootSignature
 code_of (SetPipelineState p) = code.SetPipelineState
 code_of (IASetPrimitiveTopology t) = code.IASetPrimitiveTopology
 code_of (IASetVertexBuffers i a s t) = code.IASetVertexBuffers
-code_of (SetRoot32BitConstant h i w v) = of_half h code.SetGraphicsRoot32BitConstant code.SetComputeRoot32BitConstant
-code_of (SetRootDescriptorTable h i a) = of_half h code.SetGraphicsRootDescriptorTable code.SetComputeRootDescriptorTable
-code_of (SetRootConstantBufferView h i a) = of_half h code.SetGraphicsRootConstantBufferView code.SetComputeRootConstantBufferView
+code_of (SetRoot32BitConstant h i w v) =
+    of_half h code.SetGraphicsRoot32BitConstant code.SetComputeRoot32BitConstant
+code_of (SetRootDescriptorTable h i a) =
+    of_half h code.SetGraphicsRootDescriptorTable code.SetComputeRootDescriptorTable
+code_of (SetRootConstantBufferView h i a) =
+    of_half h code.SetGraphicsRootConstantBufferView code.SetComputeRootConstantBufferView
 code_of (OMSetRenderTargets hs) = code.OMSetRenderTargets
 code_of (ClearRenderTargetView t a b c d) = code.ClearRenderTargetView
 code_of (RSSetViewports x y w h m n) = code.RSSetViewports
@@ -101,7 +111,7 @@ abbrev pub kind_byte : Half → ℕ
 kind_byte Graphics = 0
 kind_byte Compute = 2
 
--- 255 stands for the shared signature, which has no special slot
+-- 255 stands for the shared command signature, which has no special slot
 abbrev pub special_byte : Option ℕ → ℕ
 special_byte None = 255
 special_byte (Some i) = i
@@ -117,8 +127,21 @@ unit u = field 2 u ∷ []
 abbrev pub handle : ℕ → List Field
 handle h = field 8 h ∷ []
 
+-- the widths of a barrier's entry, and how many bytes that is
+abbrev pub entry_widths : List ℕ
+entry_widths = 1 ∷ 4 ∷ 4 ∷ 4 ∷ 4 ∷ []
+
+abbrev pub entry_width : ℕ
+entry_width = sum entry_widths
+
+-- the most entries that a record's length can tell
+abbrev pub most_entries : ℕ
+most_entries = 65534 / entry_width
+
 abbrev pub entry : Barrier → List Field
-entry b = field 1 (type_byte b.kind) ∷ field 4 b.resource ∷ field 4 b.subresource ∷ field 4 b.before ∷ field 4 b.after ∷ []
+entry b =
+    field 1 (type_byte b.kind) ∷ field 4 b.resource ∷ field 4 b.subresource ∷ field 4 b.before
+    ∷ field 4 b.after ∷ []
 
 -- the operands in their order, with their widths
 abbrev pub fields : Command → List Field
@@ -133,13 +156,16 @@ fields (SetRoot32BitConstant h i w v) = field 1 i ∷ field 1 w ∷ field 4 v �
 fields (SetRootDescriptorTable h i a) = field 1 i ∷ field 8 a ∷ []
 fields (SetRootConstantBufferView h i a) = field 1 i ∷ field 8 a ∷ []
 fields (OMSetRenderTargets hs) = field 1 (length hs) ∷ flat_map handle hs
-fields (ClearRenderTargetView t a b c d) = field 8 t ∷ field 4 a ∷ field 4 b ∷ field 4 c ∷ field 4 d ∷ []
-fields (RSSetViewports x y w h m n) = field 4 x ∷ field 4 y ∷ field 4 w ∷ field 4 h ∷ field 4 m ∷ field 4 n ∷ []
+fields (ClearRenderTargetView t a b c d) =
+    field 8 t ∷ field 4 a ∷ field 4 b ∷ field 4 c ∷ field 4 d ∷ []
+fields (RSSetViewports x y w h m n) =
+    field 4 x ∷ field 4 y ∷ field 4 w ∷ field 4 h ∷ field 4 m ∷ field 4 n ∷ []
 fields (RSSetScissorRects l t r b) = field 4 l ∷ field 4 t ∷ field 4 r ∷ field 4 b ∷ []
 fields (ResourceBarrier es) = flat_map entry es
 fields (DrawInstanced a b c d) = field 4 a ∷ field 4 b ∷ field 4 c ∷ field 4 d ∷ []
 fields (Dispatch x y z) = field 4 x ∷ field 4 y ∷ field 4 z ∷ []
-fields (ExecuteIndirect h s n b o) = field 1 (kind_byte h) ∷ field 1 (special_byte s) ∷ field 4 n ∷ field 4 b ∷ field 8 o ∷ []
+fields (ExecuteIndirect h s n b o) =
+    field 1 (kind_byte h) ∷ field 1 (special_byte s) ∷ field 4 n ∷ field 4 b ∷ field 8 o ∷ []
 
 -- the last of some units is 0
 abbrev pub ends_with_zero : List ℕ → Bool
@@ -157,23 +183,14 @@ is_special (Some i) = is_slot i
 -- slots, words and counts are in range, a label is ended by 0, and there is a barrier
 abbrev pub in_range : Command → Bool
 in_range (BeginEvent us) = ends_with_zero us
-in_range EndEvent = true
-in_range (SetDescriptorHeaps on) = true
-in_range (SetRootSignature h s) = true
-in_range (SetPipelineState p) = true
-in_range (IASetPrimitiveTopology t) = true
 in_range (IASetVertexBuffers i a s t) = nat_lt i 16
 in_range (SetRoot32BitConstant h i w v) = is_slot i && is_slot w
 in_range (SetRootDescriptorTable h i a) = is_slot i
 in_range (SetRootConstantBufferView h i a) = is_slot i
 in_range (OMSetRenderTargets hs) = nat_le (length hs) 8
-in_range (ClearRenderTargetView t a b c d) = true
-in_range (RSSetViewports x y w h m n) = true
-in_range (RSSetScissorRects l t r b) = true
 in_range (ResourceBarrier es) = nat_lt 0 (length es)
-in_range (DrawInstanced a b c d) = true
-in_range (Dispatch x y z) = true
 in_range (ExecuteIndirect h s n b o) = is_special s
+in_range _ = true
 
 -- a record: the length of what follows in two bytes, the code in one, the operands
 abbrev pub framed : Code → List Field → List Field
@@ -187,6 +204,6 @@ record_of c = bytes (framed (code_of c) (fields c))
 abbrev pub size : Command → ℕ
 size c = 3 + total (fields c)
 
--- a command has a record that the reader takes: in range, and no longer than two bytes of length can say
+-- the reader takes a command's record: it is in range, and two bytes can tell its length
 abbrev pub readable : Command → Bool
 readable c = in_range c && nat_lt (total (fields c)) 65535

@@ -13,7 +13,8 @@ abbrev pub after : Command → Verdict → Verdict
 after c (accepted cs) = accepted (c ∷ cs)
 after c (refused n p) = refused n p
 
--- what follows the front of a file at a place, where more tells what follows a record of so many bytes
+-- what follows the front of a file at a place, where more tells what follows a record of so many
+-- bytes
 abbrev pub followed : Front → ℕ → (ℕ → Verdict) → Verdict
 followed ended at more = accepted []
 followed (first c n) at more = after c (more n)
@@ -24,9 +25,13 @@ unfoldable pub records : ℕ → ℕ → List ℕ → Verdict
 records zero at bs = accepted []
 records (suc n) at bs = followed (front bs) at (λ k. records n (at + k) (drop k bs))
 
--- at most 65536 bytes, the first of them the version 1
+-- the longest list file in bytes
+abbrev pub most_bytes : ℕ
+most_bytes = 65536
+
+-- no longer than that, and the first byte is the version 1
 abbrev pub has_version : List ℕ → Bool
-has_version bs = nat_le (length bs) 65536 && slice_index bs 0 == 1
+has_version bs = nat_le (length bs) most_bytes && slice_index bs 0 == 1
 
 -- a list file
 unfoldable pub file : List ℕ → Verdict

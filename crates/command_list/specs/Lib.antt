@@ -5,5 +5,6 @@ pub mod Files
 pub mod Bits
 pub mod Seen
 pub mod Refusals
+pub mod Read
 pub mod RowLaws
 pub mod Shown

@@ -33,4 +33,7 @@ reason number.Operand = codes "an operand is out of its range"
 
 -- a refusal in a line
 abbrev pub line : Fault → List ℕ
-line f = codes "number " ++ (decimal (number_of f.number) ++ (codes ", place " ++ (decimal f.place ++ (codes ": " ++ reason f.number))))
+line f =
+    codes "number "
+    ++ (decimal (number_of f.number)
+    ++ (codes ", place " ++ (decimal f.place ++ (codes ": " ++ reason f.number))))

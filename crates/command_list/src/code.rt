@@ -1,10 +1,11 @@
-// The codes of the records.
 ghost use Rattle.std.specs.Prelude.{◌≡◌};
 ghost use Rattle.command_list.specs.Commands.{byte_of};
 ghost use Rattle.command_list.specs.Seen.{Names};
 
 use crate::fault::Number;
 
+/// The code of a record, named after the method of ID3D12GraphicsCommandList that the record stands
+/// for. Each code is the byte that it has in a file.
 #[derive(Clone, Copy, PartialEq, Eq, Debug)]
 pub enum Code {
     BeginEvent = 1,
@@ -31,7 +32,7 @@ pub enum Code {
     ExecuteIndirect = 31,
 }
 
-// The code that a byte names, if it names one.
+/// The code that a byte names; a byte that names none is refused with 23.
 impl TryFrom<u8> for Code {
     type Error = Number;
 
@@ -66,7 +67,7 @@ impl TryFrom<u8> for Code {
     }
 }
 
-// The byte of a code.
+/// The byte of a code.
 impl From<Code> for u8 {
     ghost from_gives = { λ code byte. byte ≡ byte_of code };
 

@@ -1,4 +1,3 @@
-// The commands as they are written: one Direct3D 12 call each.
 ghost use Rattle.std.specs.Prelude.{◌≡◌};
 ghost use Rattle.command_list.specs.Commands.{code_of, of_half, type_byte};
 ghost use Rattle.command_list.specs.Seen.{Types, fixed_command};
@@ -7,31 +6,39 @@ use crate::code::Code;
 use crate::fault::Number;
 use std::fmt;
 
-// The two halves of a command list's state.
+/// The two halves of a command list's state: calls of Direct3D come in pairs, one for each half.
 #[derive(Clone, Copy, PartialEq, Eq)]
 pub enum Half {
     Graphics,
     Compute,
 }
 
-// Direct3D's numbers of the types that entries of a barrier have here.
+/// The type of a resource barrier, by Direct3D's number (D3D12_RESOURCE_BARRIER_TYPE). Aliasing (1)
+/// is not used.
 #[derive(Clone, Copy, PartialEq, Eq)]
 pub enum BarrierType {
+    /// The resource goes from one state to another.
     Transition = 0,
+    /// All accesses to the resource as an unordered access view end before the next ones begin.
     Uav = 2,
 }
 
-// An entry of a resource barrier.
+/// An entry of a resource barrier (D3D12_RESOURCE_BARRIER).
 #[derive(Clone, Copy)]
 pub struct Barrier {
     pub kind: BarrierType,
+    /// The host's number of the resource.
     pub resource: u32,
+    /// The index of a subresource, or 0xffffffff for all of them.
     pub subresource: u32,
+    /// The state before, in bits of D3D12_RESOURCE_STATES.
     pub before: u32,
+    /// The state after.
     pub after: u32,
 }
 
-// A command whose operands have a fixed width.
+/// A command whose operands have a fixed width. Floats stand as their bit patterns, so that a list
+/// is written byte for byte as it was given.
 #[derive(Clone, Copy, PartialEq, Eq)]
 pub enum Fixed {
     EndEvent,
@@ -42,12 +49,14 @@ pub enum Fixed {
     },
     SetPipelineState(u32),
     IASetPrimitiveTopology(u32),
+    /// One view of a vertex buffer; sizes and strides are in bytes.
     IASetVertexBuffers {
         slot: u8,
         address: u64,
         size: u32,
         stride: u32,
     },
+    /// One 32-bit constant of a root slot; `word` counts constants from the first of the slot.
     SetRoot32BitConstant {
         half: Half,
         slot: u8,
@@ -64,10 +73,12 @@ pub enum Fixed {
         slot: u8,
         address: u64,
     },
+    /// Red, green, blue and alpha as float patterns.
     ClearRenderTargetView {
         target: u64,
         colour: [u32; 4],
     },
+    /// x, y, width, height, least and greatest depth as float patterns.
     RSSetViewports([u32; 6]),
     RSSetScissorRects {
         left: u32,
@@ -86,7 +97,9 @@ pub enum Fixed {
         y: u32,
         z: u32,
     },
-    // A draw (graphics) or a dispatch (compute); the special slot of an own signature.
+    /// Indirect draws (graphics) or dispatches (compute): at most `count` of them, whose arguments
+    /// begin `offset` bytes into the buffer. `special` is the root slot that the command signature
+    /// writes before each; none stands for the shared command signature, which writes no root slot.
     ExecuteIndirect {
         half: Half,
         special: Option<u8>,
@@ -96,18 +109,22 @@ pub enum Fixed {
     },
 }
 
-// A command: of a fixed width, or with a list of units, handles or entries among its operands.
+/// A command: of a fixed width, or with a list of units, handles or entries among its operands.
 #[derive(Clone, Copy)]
 pub enum Call<U, H, E> {
+    /// A label in UTF-16, ended by a unit that is 0.
     BeginEvent(U),
+    /// The handles of at most eight render targets.
     OMSetRenderTargets(H),
+    /// One entry at least.
     ResourceBarrier(E),
     Fixed(Fixed),
 }
 
-// A command that is given to be written: its lists are slices.
+/// A command that is given to be written: its lists are slices.
 pub type Command<'a> = Call<&'a [u16], &'a [u64], &'a [Barrier]>;
 
+/// The half in a word, for messages.
 impl fmt::Display for Half {
     ghost use Rattle.std.specs.Prelude.{Some};
     ghost use Rattle.command_list.specs.Shown.{half_name};
@@ -122,7 +139,7 @@ impl fmt::Display for Half {
     }
 }
 
-// The type that a byte names, if it names one.
+/// The type that a byte names; a byte that names none is refused with 25.
 impl TryFrom<u8> for BarrierType {
     type Error = Number;
 
@@ -137,7 +154,7 @@ impl TryFrom<u8> for BarrierType {
     }
 }
 
-// The byte of a type.
+/// The byte of a type.
 impl From<BarrierType> for u8 {
     ghost from_gives = { λ kind byte. byte ≡ type_byte kind };
 
@@ -159,7 +176,7 @@ impl Half {
 }
 
 impl Fixed {
-    // The code of a command.
+    /// The code of the command's record.
     pub fn code(self) -> Code
         ensures { result ≡ code_of (fixed_command self) }
     {

@@ -1,18 +1,18 @@
-// What a list among the operands is made of.
 ghost use Rattle.std.specs.Prelude.{◌≡◌, ℕ, ◌+◌, ◌*◌, ◌/◌, ◌<◌, ◌≤◌, if◌then◌else◌, nat_le, List, length, is_some, Option, Some, None};
 ghost use Rattle.std.specs.List.{slice_get, list_all, range_with_len};
 ghost use Rattle.command_list.specs.Numbers.{number_at};
+ghost use Rattle.command_list.specs.Commands.{entry_width};
 ghost use Rattle.command_list.specs.Decoding.{barriers};
 ghost use Rattle.command_list.specs.Seen.{every, entry_at, entry_numbers};
 
 use crate::command::{Barrier, BarrierType};
 use crate::fields::Wide;
 
-// A row of one width.
+/// What a list among the operands is made of: rows of one width.
 pub trait Row: Copy {
-    // How many bytes a row takes.
     ghost WIDTH: { ℕ };
 
+    /// How many bytes a row takes.
     const WIDTH: usize;
 
     // The row that begins at a place, if the bytes are one.
@@ -21,19 +21,26 @@ pub trait Row: Copy {
     // The rows of some bytes, one behind the other, if each is one.
     ghost rows: { List ℕ → Option (List Self) };
 
-    // The row that begins at a place; none where the bytes end before it does, or are no row.
+    /// The row that begins at a place; none where the bytes end before it does, or are no row.
     fn read(bytes: &[u8], at: usize) -> Option<Self>
-        ensures { result ≡ (if nat_le (at + WIDTH) (length bytes.now) then row_at at bytes.now else None) };
+        ensures { result
+            ≡ (if nat_le (at + WIDTH) (length bytes.now) then row_at at bytes.now else None) };
 
     ghost some: { 0 < WIDTH };
 
-    ghost counted: { (bs : List ℕ) (xs : List Self) → rows bs ≡ Some xs → length bs / WIDTH ≡ length xs };
+    // as many rows as there is room for whole ones
+    ghost counted: { (bs : List ℕ) (xs : List Self) → rows bs ≡ Some xs
+        → length bs / WIDTH ≡ length xs };
 
-    ghost in_turn: { (bs : List ℕ) (xs : List Self) (i : ℕ) → rows bs ≡ Some xs → i < length bs / WIDTH → row_at (WIDTH * i) bs ≡ slice_get xs i };
+    ghost in_turn: { (bs : List ℕ) (xs : List Self) (i : ℕ) → rows bs ≡ Some xs
+        → i < length bs / WIDTH → row_at (WIDTH * i) bs ≡ slice_get xs i };
 
-    ghost past: { (bs : List ℕ) (xs : List Self) (i : ℕ) → rows bs ≡ Some xs → length bs / WIDTH ≤ i → None ≡ slice_get xs i };
+    ghost past: { (bs : List ℕ) (xs : List Self) (i : ℕ) → rows bs ≡ Some xs
+        → length bs / WIDTH ≤ i → None ≡ slice_get xs i };
 
-    ghost each: { (bs : List ℕ) → list_all (λ i. is_some (row_at (WIDTH * i) bs)) (range_with_len 0 (length bs / WIDTH)) ≡ is_some (rows bs) };
+    ghost each: { (bs : List ℕ)
+        → list_all (λ i. is_some (row_at (WIDTH * i) bs)) (range_with_len 0 (length bs / WIDTH))
+        ≡ is_some (rows bs) };
 }
 
 // Whether so many bytes follow a place.
@@ -43,7 +50,7 @@ fn holds(bytes: &[u8], at: usize, n: usize) -> bool
     n <= bytes.len() && at <= bytes.len() - n
 }
 
-// The units of a label.
+/// The units of a label.
 impl Row for u16 {
     ghost use Rattle.std.proofs.Common.{rules};
     ghost use Rattle.command_list.specs.RowLaws.{count_every, turn_every, end_every, each_every};
@@ -57,7 +64,7 @@ impl Row for u16 {
     ghost rows = { λ bs. Some (every 2 bs) };
 
     fn read(bytes: &[u8], at: usize) -> Option<u16> {
-        holds(bytes, at, 2).then(|| Wide::get(bytes, at))
+        holds(bytes, at, u16::WIDTH).then(|| Wide::get(bytes, at))
     }
 
     ghost some = { Prim.search rules };
@@ -71,7 +78,7 @@ impl Row for u16 {
     ghost each = { each_every 2 };
 }
 
-// The handles of targets. Beside the units' this is one more instance, since each shows the laws of its own width.
+/// The handles of render targets.
 impl Row for u64 {
     ghost use Rattle.std.proofs.Common.{rules};
     ghost use Rattle.command_list.specs.RowLaws.{count_every, turn_every, end_every, each_every};
@@ -85,7 +92,7 @@ impl Row for u64 {
     ghost rows = { λ bs. Some (every 8 bs) };
 
     fn read(bytes: &[u8], at: usize) -> Option<u64> {
-        holds(bytes, at, 8).then(|| Wide::get(bytes, at))
+        holds(bytes, at, u64::WIDTH).then(|| Wide::get(bytes, at))
     }
 
     ghost some = { Prim.search rules };
@@ -99,12 +106,12 @@ impl Row for u64 {
     ghost each = { each_every 8 };
 }
 
-// The entries of a resource barrier, each of which begins with a type that is known.
+/// The entries of a resource barrier, each of which begins with a type that is known.
 impl Row for Barrier {
     ghost use Rattle.std.proofs.Common.{rules};
     ghost use Rattle.command_list.specs.RowLaws.{count_entries, turn_entries, end_entries, each_entry};
 
-    ghost WIDTH = { 17 };
+    ghost WIDTH = { entry_width };
 
     const WIDTH: usize = 17;
 
@@ -113,10 +120,9 @@ impl Row for Barrier {
     ghost rows = { λ bs. barriers (entry_numbers bs) };
 
     fn read(bytes: &[u8], at: usize) -> Option<Barrier> {
-        if !holds(bytes, at, 17) {
+        if !holds(bytes, at, Barrier::WIDTH) {
             return None;
         }
-        // `let .. else`, which the check follows without help, and `.ok()?` not.
         let Ok(kind) = BarrierType::try_from(u8::get(bytes, at)) else {
             return None;
         };

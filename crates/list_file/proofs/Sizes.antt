@@ -6,7 +6,7 @@ use Rattle.std.proofs.lemmas.Bool.{and_parts, and_from, false≢true}
 use Rattle.command_list.specs.declared.fault.Fault.{Fault}
 use Rattle.command_list.specs.Seen.{Given}
 use Rattle.command_list.specs.Commands.{Command, record_of, size, readable, framed, code_of, fields}
-use Rattle.command_list.specs.Files.{encoded, file, accepted}
+use Rattle.command_list.specs.Files.{most_bytes, encoded, file, accepted}
 use Rattle.command_list.specs.Seen.{given_command}
 use Rattle.list_file.specs.Passing.{all_readable, Listed}
 use Rattle.list_writer.specs.Writing.{Began, Wrote, Unwritten}
@@ -74,7 +74,7 @@ module _ (cs : List Command) (i : ℕ) (d : Command) (xs ys : List ℕ) (n : ℕ
   pub fits : n + size next ≤ length ys
   fits = let f = length_front cs (i + 1) in omega (arith, long, same_length)
 
-  pub no_refusal : (f : Fault) (zs : List ℕ) → all_readable cs ≡ true → length xs ≤ 65536 → Unwritten next ys n f zs → ⊥
+  pub no_refusal : (f : Fault) (zs : List ℕ) → all_readable cs ≡ true → length xs ≤ most_bytes → Unwritten next ys n f zs → ⊥
   no_refusal f zs r few u = u.why (readable_front cs i d r h) (omega (arith, fits, same_length))
 
   pub sofar_more : (m : ℕ) (zs : List ℕ) → Wrote next ys n m zs → Sofar cs (i + 1) xs m zs
@@ -109,7 +109,7 @@ module _ (gs : List Given) (i : ℕ) (d : Given) (h : i < length gs) where
   given_within : i < length (map given_command gs)
   given_within = simp length-map h
 
-  pub given_refusal : (xs ys : List ℕ) (n : ℕ) → Sofar (map given_command gs) i xs n ys → length (encoded (map given_command gs)) ≤ length xs → (f : Fault) (zs : List ℕ) → all_readable (map given_command gs) ≡ true → length xs ≤ 65536 → Unwritten (given_command (get_or gs i d)) ys n f zs → ⊥
+  pub given_refusal : (xs ys : List ℕ) (n : ℕ) → Sofar (map given_command gs) i xs n ys → length (encoded (map given_command gs)) ≤ length xs → (f : Fault) (zs : List ℕ) → all_readable (map given_command gs) ≡ true → length xs ≤ most_bytes → Unwritten (given_command (get_or gs i d)) ys n f zs → ⊥
   given_refusal xs ys n s l f zs r few u = no_refusal (map given_command gs) i (given_command d) xs ys n s given_within l f zs r few (subst (λ c. Unwritten c ys n f zs) (sym given_next) u)
 
   pub given_more : (xs ys : List ℕ) (n : ℕ) → Sofar (map given_command gs) i xs n ys → length (encoded (map given_command gs)) ≤ length xs → (m : ℕ) (zs : List ℕ) → Wrote (given_command (get_or gs i d)) ys n m zs → Sofar (map given_command gs) (i + 1) xs m zs
@@ -125,7 +125,7 @@ module _ (gs : List Given) (i : ℕ) (d : Given) (h : i < length gs) where
   pub readable_more : all_readable (take i (map given_command gs)) ≡ true → readable (given_command (get_or gs i d)) ≡ true → all_readable (take (i + 1) (map given_command gs)) ≡ true
   readable_more a r = ap all_readable front_more ∙ readable_push (take i (map given_command gs)) (given_command (get_or gs i d)) a r
 
-  pub too_many : (t k : ℕ) → t ≡ length (encoded (take i (map given_command gs))) → k ≡ size (given_command (get_or gs i d)) → 65536 < t + k → length (encoded (map given_command gs)) ≤ 65536 → ⊥
+  pub too_many : (t k : ℕ) → t ≡ length (encoded (take i (map given_command gs))) → k ≡ size (given_command (get_or gs i d)) → most_bytes < t + k → length (encoded (map given_command gs)) ≤ most_bytes → ⊥
   too_many t k e q far few = let f = length_front (map given_command gs) (i + 1) in let s = size_more t k e q in omega arith
 
   pub not_all : readable (given_command (get_or gs i d)) ≡ false → all_readable (map given_command gs) ≡ true → ⊥

@@ -6,7 +6,7 @@ use Rattle.command_list.specs.declared.fault.Fault.{Fault}
 use Rattle.command_list.specs.Seen.{Record}
 use Rattle.command_list.specs.Commands.{Command, record_of, size, readable}
 use Rattle.command_list.specs.Decoding.{Front, ended, first, broken, front}
-use Rattle.command_list.specs.Files.{Verdict, accepted, refused, after, followed, records, has_version, file, is_accepted}
+use Rattle.command_list.specs.Files.{most_bytes, Verdict, accepted, refused, after, followed, records, has_version, file, is_accepted}
 use Rattle.list_writer.specs.Writing.{room, Wrote, Unwritten, Began, Unbegun}
 use Rattle.list_file.specs.Passing.{Holds, Rewrote}
 use Rattle.command_list.specs.Seen.{command_of, finished, got, stopped, seen_record, step_of, step_at}
@@ -163,7 +163,7 @@ count_low bs at n w = let a = w.3 in let b = w.4 in omega arith
 
 -- the first bytes of a file were written again
 pub Again : List ℕ → ℕ → List ℕ → Type 0
-Again bs at ys = (is_accepted (tail bs at) ≡ true) × (take at ys ≡ take at bs) × (length ys ≡ length bs) × (at ≤ length bs) × (length bs ≤ 65536)
+Again bs at ys = (is_accepted (tail bs at) ≡ true) × (take at ys ≡ take at bs) × (length ys ≡ length bs) × (at ≤ length bs) × (length bs ≤ most_bytes)
 
 after_accepted : (c : Command) (v : Verdict) → is_accepted (after c v) ≡ is_accepted v
 after_accepted c (accepted cs) = refl
@@ -175,7 +175,7 @@ again_start [] xs ys n v a l b = absurd (let z = some_byte [] v in omega arith)
 again_start (x ∷ bs) xs ys n v a l b =
     let p = and_parts _ _ v in
     let one : x ≡ 1 = eqb-true x 1 p.1 in
-    let few = leb-true (length (x ∷ bs)) 65536 p.0 in
+    let few = leb-true (length (x ∷ bs)) most_bytes p.0 in
     let d = length-drop 1 xs in (
       b.ends,
       (
@@ -188,7 +188,7 @@ again_start (x ∷ bs) xs ys n v a l b =
     )
 
 pub not_begun : (bs xs : List ℕ) (f : Fault) (ys : List ℕ) → has_version bs ≡ true → length xs ≡ length bs → Unbegun xs f ys → ⊥
-not_begun bs xs f ys v l u = let o = some_byte bs v in let few = leb-true (length bs) 65536 (and_parts _ _ v).0 in u.why (omega arith) (omega arith)
+not_begun bs xs f ys v l u = let o = some_byte bs v in let few = leb-true (length bs) most_bytes (and_parts _ _ v).0 in u.why (omega arith) (omega arith)
 
 pub not_open : (bs : List ℕ) → is_accepted (file bs) ≡ true → has_version bs ≡ false → ⊥
 not_open bs a v = false≢true (sym (ap is_accepted (file_none bs v)) ∙ a)

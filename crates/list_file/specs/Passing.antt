@@ -4,7 +4,7 @@ use Rattle.command_list.specs.declared.fault.Fault.{Fault}
 use Rattle.command_list.specs.Commands.{Command, fields, record_of, size, readable}
 use Rattle.command_list.specs.Numbers.{Fit}
 use Rattle.command_list.specs.Decoding.{first, front}
-use Rattle.command_list.specs.Files.{Verdict, accepted, refused, file, encoded}
+use Rattle.command_list.specs.Files.{most_bytes, Verdict, accepted, refused, file, encoded}
 use Rattle.command_list.specs.Seen.{IsFault}
 
 -- n commands are accepted
@@ -22,7 +22,8 @@ abbrev pub Checked : List ℕ → Result ℕ Fault → Type 0
 Checked bs (Ok n) = Holds (file bs) n
 Checked bs (Err f) = Stops (file bs) f
 
--- the commands of bs were written again at the start of xs, which left ys: they give the n bytes of bs itself
+-- the commands of bs were written again at the start of xs, which left ys: they give the n bytes of
+-- bs itself
 pub record Rewrote (bs xs : List ℕ) (n : ℕ) (ys : List ℕ) : Type 0 where
   pub commands : List Command
   pub says : file bs ≡ accepted commands
@@ -45,8 +46,9 @@ all_readable (c ∷ cs) = readable c && all_readable cs
 
 -- how long a list of cs is
 abbrev pub ListSize : List Command → Result ℕ Fault → Type 0
-ListSize cs (Ok n) = (all_readable cs ≡ true) × (n ≡ length (encoded cs)) × (n ≤ 65536)
-ListSize cs (Err f) = IsFault f 10 0 × (all_readable cs ≡ true → length (encoded cs) ≤ 65536 → ⊥)
+ListSize cs (Ok n) = (all_readable cs ≡ true) × (n ≡ length (encoded cs)) × (n ≤ most_bytes)
+ListSize cs (Err f) =
+    IsFault f 10 0 × (all_readable cs ≡ true → length (encoded cs) ≤ most_bytes → ⊥)
 
 -- the list of cs was written at the start of xs, which left ys: its n bytes read back as cs
 pub record Listed (cs : List Command) (xs : List ℕ) (n : ℕ) (ys : List ℕ) : Type 0 where
@@ -54,19 +56,20 @@ pub record Listed (cs : List Command) (xs : List ℕ) (n : ℕ) (ys : List ℕ) 
   pub wrote : ys ≡ encoded cs ++ drop n xs
   pub reads : file (take n ys) ≡ accepted cs
 
--- a command has no record that the reader takes, or the list does not fit; nothing was written
+-- nothing was written: a command is not readable, or the list does not fit
 pub record Unlisted (cs : List Command) (xs : List ℕ) (f : Fault) (ys : List ℕ) : Type 0 where
   pub fault : IsFault f 10 0
-  pub why : all_readable cs ≡ true → length (encoded cs) ≤ length xs → length xs ≤ 65536 → ⊥
+  pub why : all_readable cs ≡ true → length (encoded cs) ≤ length xs → length xs ≤ most_bytes → ⊥
   pub same : ys ≡ xs
 
 abbrev pub ListWritten : List Command → List ℕ → Result ℕ Fault → List ℕ → Type 0
 ListWritten cs xs (Ok n) ys = Listed cs xs n ys
 ListWritten cs xs (Err f) ys = Unlisted cs xs f ys
 
--- a command is readable exactly where it has a record that the reader takes, and it has only one
+-- a command is readable exactly where some bytes are read as it, and those are its record
 abbrev pub RecordsKnown : Type 0
 RecordsKnown =
     (c : Command) →
     (readable c ≡ true → Fit (fields c) → front (record_of c) ≡ first c (size c))
-    × ((bs : List ℕ) → ((i : ℕ) → slice_index bs i < 256) → front bs ≡ first c (length bs) → (readable c ≡ true) × (bs ≡ record_of c))
+    × ((bs : List ℕ) → ((i : ℕ) → slice_index bs i < 256) → front bs ≡ first c (length bs)
+    → (readable c ≡ true) × (bs ≡ record_of c))

@@ -1,8 +1,11 @@
-// Whole list files.
+//! Whole list files: checked, rewritten, measured and written in one call.
+//!
+//! Each call looks at all of its input before it writes the first byte, so that a refusal leaves
+//! the output as it stands.
 #![tactic(auto)]
 
 ghost use Rattle.std.specs.Prelude.{◌≡◌, ◌≤◌, true, map, length, MatchResult};
-ghost use Rattle.command_list.specs.Files.{is_accepted, encoded, file as file_said};
+ghost use Rattle.command_list.specs.Files.{most_bytes, is_accepted, encoded, file as file_said};
 ghost use Rattle.command_list.specs.Seen.{given_command};
 ghost use Rattle.list_file.specs.Passing.{Checked, Rewritten, ListSize, ListWritten, Listed, all_readable, RecordsKnown};
 
@@ -11,8 +14,7 @@ use command_list::fault::{FULL, Fault};
 use command_list::reader::{MOST_BYTES, Reader};
 use list_writer::writer::{Recordable, begin};
 
-// How many records a list file has, or its first refusal. A reader may refuse and then stand where it stood, so it is
-// no iterator with a `count`.
+/// How many records a list file has, or its first refusal: 21 to 25, as the reader gives them.
 pub fn check(file: &[u8]) -> Result<usize, Fault>
     ensures { Checked file.now result }
 {
@@ -24,7 +26,7 @@ pub fn check(file: &[u8]) -> Result<usize, Fault>
     Ok(count)
 }
 
-// Writes the commands of an accepted file again, into as many bytes.
+// Writes the commands of a file without faults again, into as many bytes.
 fn rewrite_all(file: &[u8], out: &mut [u8]) -> Result<(), Fault>
     requires takes { is_accepted (file_said file.now) ≡ true }
     requires fits { length out.old ≡ length file.now }
@@ -38,8 +40,9 @@ fn rewrite_all(file: &[u8], out: &mut [u8]) -> Result<(), Fault>
     Ok(())
 }
 
-// Writes the commands of a list file again at the start of `out`, and says how many bytes they
-// take. They give the file's own bytes. A refusal leaves `out` as it stands.
+/// Writes the commands of a list file again at the start of `out`, and says how many bytes they
+/// take: they come out as the file's own bytes. Refused as the file is, or with 10 at 0 where `out`
+/// is too short; `out` is left as it stands.
 pub fn rewrite(file: &[u8], out: &mut [u8]) -> Result<usize, Fault>
     ensures { Rewritten file.now out.old result out.new }
 {
@@ -52,12 +55,11 @@ pub fn rewrite(file: &[u8], out: &mut [u8]) -> Result<usize, Fault>
     Ok(size)
 }
 
-// How many bytes the list of some commands takes; refused where it has more than a list may
-// have, or where a command has no record that the reader takes.
+/// How many bytes the list of some commands takes. Refused with 10 at 0 where that is more than a
+/// list may have, or where a command has no readable record.
 pub fn list_size(commands: &[Command]) -> Result<usize, Fault>
     ensures { ListSize (map given_command commands.now) result }
 {
-    // Not `sum`: a size may be refused, and the total passes the limit before it could overflow.
     let mut total = 1;
     for command in commands {
         total += command.size()?;
@@ -68,12 +70,13 @@ pub fn list_size(commands: &[Command]) -> Result<usize, Fault>
     Ok(total)
 }
 
-// Writes the list of some commands, which is known to fit.
+// Writes the list of some commands, which fits.
 fn write_all(commands: &[Command], bytes: &mut [u8]) -> Result<usize, Fault>
     requires readable { all_readable (map given_command commands.now) ≡ true }
     requires fits { length (encoded (map given_command commands.now)) ≤ length bytes.old }
-    requires short { length bytes.old ≤ 65536 }
-    ensures { MatchResult result (λ n. Listed (map given_command commands.now) bytes.old n bytes.new) (λ _. ⊥) }
+    requires short { length bytes.old ≤ most_bytes }
+    ensures { MatchResult result
+        (λ n. Listed (map given_command commands.now) bytes.old n bytes.new) (λ _. ⊥) }
 {
     let mut end = begin(bytes)?;
     for command in commands {
@@ -82,8 +85,9 @@ fn write_all(commands: &[Command], bytes: &mut [u8]) -> Result<usize, Fault>
     Ok(end)
 }
 
-// Writes the list of some commands at the start of the caller's bytes, of which there are at
-// most 65536, and says how many bytes it takes. A refusal leaves the bytes as they stand.
+/// Writes the list of some commands at the start of the bytes, and says how many it takes. Refused
+/// with 10 at 0 where [`list_size`] refuses it, where the bytes are too few, or where they are more
+/// than a list may have; the bytes are left as they stand.
 pub fn write(commands: &[Command], bytes: &mut [u8]) -> Result<usize, Fault>
     ensures { ListWritten (map given_command commands.now) bytes.old result bytes.new }
 {
@@ -94,7 +98,8 @@ pub fn write(commands: &[Command], bytes: &mut [u8]) -> Result<usize, Fault>
     write_all(commands, bytes)
 }
 
-// What has a record that the reader takes, for every command.
+/// Which commands have a readable record: exactly those whose slots, words and counts are in range
+/// and whose record is short enough; and each has one only.
 pub fn records_are_known()
     ensures { RecordsKnown }
 {}

@@ -1,4 +1,4 @@
--- What has a record that the reader takes, and what writing one leaves.
+-- Which commands are readable, and what writing one leaves.
 use Rattle.std.proofs.Common.{Some, ◌≡◌, ℕ, suc, ◌+◌, ◌-◌, ◌<◌, ◌≤◌, Bool, true, false, ◌&&◌, eqb, ltb, leb, List, [], ◌∷◌, ◌++◌, length, take, drop, set, Ok, Err, Result, subst, sym, refl, ap, ◌∙◌, ⊎_elim, append_assoc, arith, length-append}
 use Rattle.std.specs.List.{flat_map, slice_get}
 use Rattle.std.specs.Option.{option_eq}
@@ -10,8 +10,8 @@ use Rattle.command_list.specs.declared.command.Barrier.{Barrier}
 use Rattle.command_list.specs.declared.command.Fixed.{Fixed}
 use Rattle.command_list.specs.declared.command.Fixed.TheVariants as fixed
 use Rattle.command_list.specs.Numbers.{Field, total}
-use Rattle.command_list.specs.Commands.{Command, BeginEvent, OMSetRenderTargets, ResourceBarrier, code_of, fields, framed, record_of, unit, handle, entry, ends_with_zero, in_range, readable}
-use Rattle.command_list.specs.Files.{file, records}
+use Rattle.command_list.specs.Commands.{Command, BeginEvent, OMSetRenderTargets, ResourceBarrier, code_of, fields, framed, record_of, unit, handle, entry, entry_width, most_entries, ends_with_zero, in_range, readable}
+use Rattle.command_list.specs.Files.{most_bytes, file, records}
 use Rattle.command_list.specs.Decoding.{front}
 use Rattle.command_list.specs.Seen.{fixed_command}
 use Rattle.list_writer.specs.Writing.{Grew, Appended, Wrote, Written, Began}
@@ -47,10 +47,10 @@ readable_targets hs =
     (λ l. let f = lt-leb (length hs) 8 l in f ∙ sym (and_left _ _ f))
     (λ l. let f = le-leb (length hs) 8 l in f ∙ sym (and_from _ _ f (lt-ltb (1 + total (flat_map handle hs)) 65535 (omega arith)))) (cases_lt 8 (length hs))
 
-pub readable_barriers : (es : List Barrier) → (ltb 0 (length es) && leb (length es) 3854) ≡ readable (ResourceBarrier es)
+pub readable_barriers : (es : List Barrier) → (ltb 0 (length es) && leb (length es) most_entries) ≡ readable (ResourceBarrier es)
 readable_barriers es =
-    let t = total_entries entry 17 (λ e. refl) es in
-    ap (λ x. ltb 0 (length es) && x) (fewer (total (flat_map entry es)) (length es) 3854 65535 ((λ l. omega arith), (λ l. omega arith)))
+    let t = total_entries entry entry_width (λ e. refl) es in
+    ap (λ x. ltb 0 (length es) && x) (fewer (total (flat_map entry es)) (length es) most_entries 65535 ((λ l. omega arith), (λ l. omega arith)))
 
 pub and_true : (t : Bool) → (t && true) ≡ t
 and_true true = refl
@@ -107,7 +107,7 @@ pub readable_total : (c : Command) → readable c ≡ true → total (fields c) 
 readable_total c r = ltb-true (total (fields c)) 65535 (and_parts _ _ r).1
 
 -- a list that has only its version
-pub began : (xs : List ℕ) → 0 < length xs → length xs ≤ 65536 → Began xs 1 (set xs 0 1)
+pub began : (xs : List ℕ) → 0 < length xs → length xs ≤ most_bytes → Began xs 1 (set xs 0 1)
 unfolding file records front
 began [] h l = absurd (omega arith)
 began (x ∷ xs) h l = record { some = h; short = l; ends = refl; wrote = refl; reads = refl }

@@ -14,8 +14,8 @@ use Rattle.command_list.specs.declared.command.Barrier.{Barrier}
 use Rattle.command_list.specs.declared.code.Code.{Code}
 use Rattle.command_list.specs.declared.code.Code.TheVariants as code
 use Rattle.command_list.specs.Numbers.{Field, bytes, total, Fit, widths, values, number_at, numbers}
-use Rattle.command_list.specs.Commands.{Command, code_of, fields, unit, handle, entry, in_range, ends_with_zero, type_byte, flag_byte, kind_byte, special_byte, BeginEvent, EndEvent, SetDescriptorHeaps, SetRootSignature, SetPipelineState, IASetPrimitiveTopology, IASetVertexBuffers, SetRoot32BitConstant, SetRootDescriptorTable, SetRootConstantBufferView, OMSetRenderTargets, ClearRenderTargetView, RSSetViewports, RSSetScissorRects, ResourceBarrier, DrawInstanced, Dispatch, ExecuteIndirect}
-use Rattle.command_list.specs.Decoding.{shape, sum, length_right, repeated, widths_of, flag_of, kind_of, special_of, type_of, then, barriers, named, takes, wrong, checked, decode}
+use Rattle.command_list.specs.Commands.{Command, code_of, fields, unit, handle, entry, entry_widths, entry_width, sum, in_range, ends_with_zero, type_byte, flag_byte, kind_byte, special_byte, BeginEvent, EndEvent, SetDescriptorHeaps, SetRootSignature, SetPipelineState, IASetPrimitiveTopology, IASetVertexBuffers, SetRoot32BitConstant, SetRootDescriptorTable, SetRootConstantBufferView, OMSetRenderTargets, ClearRenderTargetView, RSSetViewports, RSSetScissorRects, ResourceBarrier, DrawInstanced, Dispatch, ExecuteIndirect}
+use Rattle.command_list.specs.Decoding.{shape, length_right, repeated, widths_of, flag_of, kind_of, special_of, type_of, then, barriers, named, takes, wrong, checked, decode}
 use Rattle.command_list.proofs.Places.{number_1}
 use Rattle.list_writer.specs.EntryLaws.{widths_joined, values_units, values_handles, two_ways, entries_back}
 use Rattle.list_writer.proofs.Rows.{length_bytes, total_entries}
@@ -92,10 +92,10 @@ decoded (ClearRenderTargetView t a b c d) r f = decode_by code.ClearRenderTarget
 decoded (RSSetViewports x y w h m n) r f = decode_by code.RSSetViewports (fields (RSSetViewports x y w h m n)) _ refl refl refl r f
 decoded (RSSetScissorRects l t rt b) r f = decode_by code.RSSetScissorRects (fields (RSSetScissorRects l t rt b)) _ refl refl refl r f
 decoded (ResourceBarrier es) r f =
-    let t : total (flat_map entry es) ≡ 17 * length es = total_entries entry 17 (λ e. refl) es in
+    let t : total (flat_map entry es) ≡ entry_width * length es = total_entries entry entry_width (λ e. refl) es in
     decode_by code.ResourceBarrier (flat_map entry es) _
-    (ap (λ n. ltb 0 n && eqb (n % 17) 0) t ∙ several_right 17 (length es) (omega arith) (ltb-true 0 (length es) r))
-    (ap (λ n. repeated n (1 ∷ 4 ∷ 4 ∷ 4 ∷ 4 ∷ [])) (ap (λ n. n / 17) t ∙ mul-div_right (length es) {m = 17} (omega arith)) ∙ sym (widths_joined entry (1 ∷ 4 ∷ 4 ∷ 4 ∷ 4 ∷ []) (λ e. refl) es))
+    (ap (λ n. ltb 0 n && eqb (n % entry_width) 0) t ∙ several_right entry_width (length es) (omega arith) (ltb-true 0 (length es) r))
+    (ap (λ n. repeated n entry_widths) (ap (λ n. n / entry_width) t ∙ mul-div_right (length es) {m = entry_width} (omega arith)) ∙ sym (widths_joined entry entry_widths (λ e. refl) es))
     (ap (λ o. then o (λ ds. Some (ResourceBarrier ds))) (barriers_entries es)) r f
 decoded (DrawInstanced a b c d) r f = decode_by code.DrawInstanced (fields (DrawInstanced a b c d)) _ refl refl refl r f
 decoded (Dispatch x y z) r f = decode_by code.Dispatch (fields (Dispatch x y z)) _ refl refl refl r f
@@ -205,11 +205,11 @@ backs code.ClearRenderTargetView ops c b l e = fixed_back code.ClearRenderTarget
 backs code.RSSetViewports ops c b l e = fixed_back code.RSSetViewports (4 ∷ 4 ∷ 4 ∷ 4 ∷ 4 ∷ 4 ∷ []) (RSSetViewports _ _ _ _ _ _) c ops refl refl refl l b e
 backs code.RSSetScissorRects ops c b l e = fixed_back code.RSSetScissorRects (4 ∷ 4 ∷ 4 ∷ 4 ∷ []) (RSSetScissorRects _ _ _ _) c ops refl refl refl l b e
 backs code.ResourceBarrier ops c b l e =
-    let n = length ops / 17 in
-    let a = then_is (barriers (numbers (repeated n (1 ∷ 4 ∷ 4 ∷ 4 ∷ 4 ∷ [])) 0 ops)) _ c e in
-    back_by code.ResourceBarrier (repeated n (1 ∷ 4 ∷ 4 ∷ 4 ∷ 4 ∷ [])) (ResourceBarrier a.0) c ops refl
-    (widths_joined entry (1 ∷ 4 ∷ 4 ∷ 4 ∷ 4 ∷ []) (λ x. refl) a.0 ∙ ap (λ k. repeated k (1 ∷ 4 ∷ 4 ∷ 4 ∷ 4 ∷ [])) (count_barriers n 0 ops a.0 a.1))
-    (entries_back n 0 ops a.0 a.1) (several_length 17 (length ops) (1 ∷ 4 ∷ 4 ∷ 4 ∷ 4 ∷ []) refl l) b a.2
+    let n = length ops / entry_width in
+    let a = then_is (barriers (numbers (repeated n entry_widths) 0 ops)) _ c e in
+    back_by code.ResourceBarrier (repeated n entry_widths) (ResourceBarrier a.0) c ops refl
+    (widths_joined entry entry_widths (λ x. refl) a.0 ∙ ap (λ k. repeated k entry_widths) (count_barriers n 0 ops a.0 a.1))
+    (entries_back n 0 ops a.0 a.1) (several_length entry_width (length ops) entry_widths refl l) b a.2
 backs code.DrawInstanced ops c b l e = fixed_back code.DrawInstanced (4 ∷ 4 ∷ 4 ∷ 4 ∷ []) (DrawInstanced _ _ _ _) c ops refl refl refl l b e
 backs code.Dispatch ops c b l e = fixed_back code.Dispatch (4 ∷ 4 ∷ 4 ∷ []) (Dispatch _ _ _) c ops refl refl refl l b e
 backs code.ExecuteIndirect ops c b l e =

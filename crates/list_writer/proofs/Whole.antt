@@ -8,8 +8,8 @@ use Rattle.command_list.specs.declared.code.Code.{Code}
 use Rattle.command_list.specs.declared.code.Code.TheVariants as code
 use Rattle.command_list.specs.Numbers.{bytes, total, Fit}
 use Rattle.command_list.specs.Commands.{Command, code_of, byte_of, fields, framed, record_of, size, in_range, readable}
-use Rattle.command_list.specs.Decoding.{codes, among, code_named, Decoded, takes, wrong, decode, decode_named, Front, ended, first, broken, sized, front}
-use Rattle.command_list.specs.Files.{Verdict, accepted, refused, after, followed, records, has_version, file, encoded}
+use Rattle.command_list.specs.Decoding.{codes, among, code_named, Decoded, takes, wrong, decode, decode_named, Front, ended, first, broken, sized, read_frame, front}
+use Rattle.command_list.specs.Files.{most_bytes, Verdict, accepted, refused, after, followed, records, has_version, file, encoded}
 use Rattle.list_writer.proofs.Rows.{length_bytes}
 use Rattle.list_writer.proofs.Bytewise.{number_fit, Bytes, bytes_drop, bytes_take}
 use Rattle.command_list.proofs.Fronts.{said, front_whole, front_within}
@@ -99,11 +99,11 @@ front_is (a ∷ b ∷ []) c n e = absurd (not_first e)
 front_is (a ∷ b ∷ k ∷ bs) c n e =
     let test : Bool = eqb (a * 256 + b) 0 || ltb (length bs) (a * 256 + b - 1) in
     ⊎_elim {A = test ≡ true} {B = test ≡ false}
-    (λ t. absurd (not_first (sym (cond-true _ _ _ t) ∙ e)))
+    (λ t. absurd (not_first (sym (ap read_frame (cond-true _ _ _ t)) ∙ e)))
     (λ f.
     let p = or_parts _ _ f in
     let far = ltb-false (length bs) (a * 256 + b - 1) p.1 in
-    let same = sized_is _ _ n c (sym (cond-false _ _ _ f) ∙ e) in
+    let same = sized_is _ _ n c (sym (ap read_frame (cond-false _ _ _ f)) ∙ e) in
     record { three = omega arith; some = positive (a * 256 + b) (eqb-false (a * 256 + b) 0 p.0); whole = omega arith; takes_up = same.1; says = same.0 })
     (cases_Bool test)
   where
@@ -165,8 +165,8 @@ ended_nil (a ∷ []) e = absurd (let z : ◌≡◌ {A = ℕ} 0 1 = cc in omega a
 ended_nil (a ∷ b ∷ []) e = absurd (let z : ◌≡◌ {A = ℕ} 0 1 = cc in omega arith)
 ended_nil (a ∷ b ∷ k ∷ bs) e =
     ⊎_elim {A = test ≡ true} {B = test ≡ false}
-    (λ t. absurd (broken_ended (sym (cond-true _ _ _ t) ∙ e)))
-    (λ f. absurd (sized_ended _ _ (sym (cond-false _ _ _ f) ∙ e)))
+    (λ t. absurd (broken_ended (sym (ap read_frame (cond-true _ _ _ t)) ∙ e)))
+    (λ f. absurd (sized_ended _ _ (sym (ap read_frame (cond-false _ _ _ f)) ∙ e)))
     (cases_Bool test)
   where
     test : Bool
@@ -234,7 +234,7 @@ file_is bs cs e =
     (λ f. absurd (refused_not (sym (cond-false _ _ _ f) ∙ e)))
     (cases_Bool (has_version bs))
 
-pub file_more : (bs : List ℕ) (cs : List Command) (c : Command) → file bs ≡ accepted cs → in_range c ≡ true → Fit (framed (code_of c) (fields c)) → length bs + size c ≤ 65536
+pub file_more : (bs : List ℕ) (cs : List Command) (c : Command) → file bs ≡ accepted cs → in_range c ≡ true → Fit (framed (code_of c) (fields c)) → length bs + size c ≤ most_bytes
     → file (bs ++ record_of c) ≡ accepted (cs ++ (c ∷ []))
 unfolding file
 file_more bs cs c e r f h =
@@ -245,7 +245,7 @@ file_more bs cs c e r f h =
     let la = length-append bs rs in
     let ld = length-drop 1 bs in
     let p = and_parts _ _ o.version in
-    let v : has_version (bs ++ rs) ≡ true = and_from _ _ (le-leb (length (bs ++ rs)) 65536 (omega arith)) (ap (λ b. eqb b 1) (get_or_append_left bs rs 0 0 (omega arith)) ∙ p.1) in
+    let v : has_version (bs ++ rs) ≡ true = and_from _ _ (le-leb (length (bs ++ rs)) most_bytes (omega arith)) (ap (λ b. eqb b 1) (get_or_append_left bs rs 0 0 (omega arith)) ∙ p.1) in
     let whole : front rs ≡ first c (length rs) = ap front (sym (append-nil rs)) ∙ front_record c [] r f ∙ ap (first c) (sym lr) in
     cond-true _ _ _ v
     ∙ ap (records (length (bs ++ rs)) 1) (drop-append-le 1 bs rs one)

@@ -1,4 +1,4 @@
-// Operand writers: each lays its numbers down at the start of the bytes that it is handed.
+// Operand writers: each writes its numbers at the start of the bytes that it is handed.
 ghost use Rattle.std.specs.Prelude.{◌≡◌, ℕ, ◌-◌, ◌*◌, ◌<◌, ◌≤◌, List, [], ◌∷◌, ◌++◌, length, take, drop, slice_index_or, Some};
 ghost use Rattle.std.specs.List.{flat_map, slice_get};
 ghost use Rattle.std.specs.Option.{unwrap_or};
@@ -10,11 +10,11 @@ use command_list::command::Barrier;
 use command_list::record::Rows;
 use command_list::row::Row;
 
-// A row of operands.
+/// A row of operands.
 pub trait Operands: Copy {
     ghost laid: { Self → List Field };
 
-    // Writes them at the start of `out`, and says how many bytes they took.
+    /// Writes them at the start of `out`, and says how many bytes they took.
     fn lay(self, out: &mut [u8]) -> usize
         requires { total (laid self) ≤ length out.old }
         ensures { Laid (laid self) out.old out.new result };
@@ -37,7 +37,6 @@ impl Operands for u8 {
     }
 }
 
-// One instance for each width: an array's length cannot be a trait's constant.
 impl Operands for u16 {
     ghost laid = { λ s. field 2 s ∷ [] };
 
@@ -75,7 +74,7 @@ impl Operands for Barrier {
     }
 }
 
-// One row behind another.
+/// One row behind another.
 impl<A: Operands, B: Operands> Operands for (A, B) {
     ghost laid = { λ p. A.laid p.0 ++ B.laid p.1 };
 
@@ -86,13 +85,14 @@ impl<A: Operands, B: Operands> Operands for (A, B) {
     }
 }
 
-// What a list of operands is made of.
+/// What a list of operands is made of.
 pub trait Entry: Operands + Row {
     // Every entry has the width of a row.
     ghost even: { (x : Self) → total (Self.laid x) ≡ Self.WIDTH };
 
     // Entries that were read have the numbers of the bytes that they were read from.
-    ghost as_read: { (bs : List ℕ) (xs : List Self) → Self.rows bs ≡ Some xs → values (flat_map Self.laid xs) ≡ numbers (widths (flat_map Self.laid xs)) 0 bs };
+    ghost as_read: { (bs : List ℕ) (xs : List Self) → Self.rows bs ≡ Some xs
+        → values (flat_map Self.laid xs) ≡ numbers (widths (flat_map Self.laid xs)) 0 bs };
 }
 
 impl Entry for u16 {
@@ -119,13 +119,15 @@ impl Entry for Barrier {
     ghost as_read = { entries_read };
 }
 
-// A list among the operands: as it is given, or as it was read.
+/// A list among the operands: as it is given, or as it was read.
 pub trait Listing<T: Entry>: Operands {
     ghost items: { Self → List T };
 
+    /// How many items it has.
     fn count(&self) -> usize
         ensures { result ≡ length (items self.now) };
 
+    /// The last item; none of an empty list.
     fn last(&self) -> Option<T>
         ensures { result ≡ slice_get (items self.now) (length (items self.now) - 1) };
 
@@ -133,12 +135,11 @@ pub trait Listing<T: Entry>: Operands {
     ghost joined: { (s : Self) → Self.laid s ≡ flat_map T.laid (items s) };
 }
 
-// Entries one behind the other.
+/// Entries as a caller has them.
 impl<T: Entry> Operands for &[T] {
     ghost laid = { λ s. flat_map T.laid s.now };
 
     fn lay(self, out: &mut [u8]) -> usize {
-        // Where the next entry goes, which is no index of an entry.
         let mut at = 0;
         for x in self {
             at += (*x).lay(&mut out[at..]);
@@ -163,7 +164,7 @@ impl<T: Entry> Listing<T> for &[T] {
     ghost joined = { λ s. refl };
 }
 
-// Lays the front of some bytes down as it is.
+// Copies the first `n` bytes.
 fn lay_front(bytes: &[u8], n: usize, out: &mut [u8])
     requires within { n ≤ length bytes.now }
     requires room { n ≤ length out.old }
@@ -173,7 +174,8 @@ fn lay_front(bytes: &[u8], n: usize, out: &mut [u8])
     out[0..n].copy_from_slice(&bytes[0..n]);
 }
 
-// Rows of a file are laid down as the bytes that they were read from; nothing where one is no row.
+/// Rows of a file are written as the bytes that they were read from; none of them where one is no
+/// row.
 impl<T: Entry> Operands for Rows<'_, T> {
     ghost laid = { λ s. flat_map T.laid (unwrap_or (T.rows s.bytes.now) []) };
 

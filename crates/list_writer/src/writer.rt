@@ -1,4 +1,3 @@
-// Writes records into the unused end of the caller's bytes.
 ghost use Rattle.std.specs.Prelude.{◌≡◌, ℕ, ◌+◌, ◌<◌, true, length};
 ghost use Rattle.command_list.specs.Numbers.{total};
 ghost use Rattle.command_list.specs.Commands.{Command, BeginEvent, OMSetRenderTargets, ResourceBarrier, kind_byte, in_range, size as command_size, code_of, fields};
@@ -10,8 +9,13 @@ use command_list::code::Code;
 use command_list::command::{Barrier, Call, Fixed, Half};
 use command_list::fault::{FULL, Fault};
 use command_list::reader::MOST_BYTES;
+use command_list::row::Row;
 
-// Begins a list in the caller's bytes, of which there are 1 to 65536, and says where it ends.
+// The most entries of a resource barrier, since two bytes tell the length of a record.
+const MOST_ENTRIES: usize = 65534 / Barrier::WIDTH;
+
+/// Begins a list with its version byte, and says where it ends. No bytes, or more than a list may
+/// have, are refused with 10 at 0.
 pub fn begin(bytes: &mut [u8]) -> Result<usize, Fault>
     ensures { Begun bytes.old result bytes.new }
 {
@@ -22,7 +26,8 @@ pub fn begin(bytes: &mut [u8]) -> Result<usize, Fault>
     Ok(1)
 }
 
-// Writes the record of a code and its operands, of this size, behind the first `end` bytes, and says where it ends.
+// Writes the record of a code and its operands behind the first `end` bytes. The size is known
+// before, so that the record is refused before anything is written.
 fn append_row<O: Operands>(
     bytes: &mut [u8],
     end: usize,
@@ -43,7 +48,7 @@ fn append_row<O: Operands>(
     Ok(end + size)
 }
 
-// The byte of an indirect call's kind: no other name of a half, so no conversion of `Half`.
+// The byte of an indirect call's kind.
 fn kind_byte(half: Half) -> u8
     ensures { result ≡ kind_byte half }
 {
@@ -53,7 +58,7 @@ fn kind_byte(half: Half) -> u8
     }
 }
 
-// Whether slots and words are in range.
+// Whether root slots, words and vertex slots are in range.
 #[inline(always)]
 fn in_range(fixed: Fixed) -> bool
     ensures { result ≡ in_range (fixed_command fixed) }
@@ -94,12 +99,12 @@ fn record_size(fixed: Fixed) -> usize
     }
 }
 
-// Writes the record of a command of a fixed width, whose slots and words are known to be in range. Each arm says its
-// code and its size: looked up by `record_size` and `code`, a list of 64 KiB took a third longer to write. It is
-// inlined, and so is what calls it: where an encoder says which command it records, one arm is left of it.
+// Writes the record of a command of a fixed width, whose slots and words are in range. Inlined
+// where the command is known, one arm is left, with its code and size as constants.
 #[inline(always)]
 fn append_in_range(bytes: &mut [u8], end: usize, fixed: Fixed) -> Result<usize, Fault>
-    ensures { Appended bytes.old end (code_of (fixed_command fixed)) (fields (fixed_command fixed)) result bytes.new }
+    ensures { Appended bytes.old end (code_of (fixed_command fixed)) (fields (fixed_command fixed))
+        result bytes.new }
 {
     match fixed {
         Fixed::EndEvent => append_row(bytes, end, 3, Code::EndEvent, ()),
@@ -179,7 +184,7 @@ fn append_in_range(bytes: &mut [u8], end: usize, fixed: Fixed) -> Result<usize, 
     }
 }
 
-// How long the record of a label is, which has to end with 0.
+// How long the record of a label is, which has to end with a unit of 0.
 fn label_size<U: Listing<u16>>(units: &U) -> Result<usize, Fault>
     ensures { Measured (BeginEvent (U.items units.now)) result }
 {
@@ -206,29 +211,33 @@ fn barriers_size<E: Listing<Barrier>>(entries: &E) -> Result<usize, Fault>
     ensures { Measured (ResourceBarrier (E.items entries.now)) result }
 {
     let n = entries.count();
-    if n == 0 || n > 3854 {
+    if n == 0 || n > MOST_ENTRIES {
         return Err(FULL);
     }
-    Ok(3 + 17 * n)
+    Ok(3 + Barrier::WIDTH * n)
 }
 
-// What can be recorded: a command, as it is given or as it was read.
+/// What can be recorded: a command, as it is given or as it was read.
 pub trait Recordable: Copy {
     ghost says: { Self → Command };
 
+    /// The code of its record.
     fn code(&self) -> Code
         ensures { result ≡ code_of (says self.now) };
 
-    // The command itself, if its operands have a fixed width.
+    /// The command itself, if its operands have a fixed width.
     fn fixed(&self) -> Option<Fixed>
         ensures { IsFixed result (says self.now) };
 
-    // How long its record is; refused where it has none that the reader takes.
+    /// How long its record is, in bytes. A command that has no readable record is refused with 10
+    /// at 0: a slot, word or count is out of its range, a label does not end with 0, or a list is
+    /// too long for a record.
     fn size(&self) -> Result<usize, Fault>
         ensures { Measured (says self.now) result };
 
-    // Writes its record behind the first `end` bytes, and says where it ends. The bytes are the caller's, who keeps
-    // the end too.
+    /// Writes its record behind the first `end` bytes, and says where it ends. Refused with 10 at 0
+    /// where it has no readable record, or where the bytes, of which a list has 65536 at most, do
+    /// not take it.
     fn append_to(self, bytes: &mut [u8], end: usize) -> Result<usize, Fault>
         ensures { Written (says self) bytes.old end result bytes.new };
 }
