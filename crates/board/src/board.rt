@@ -1,7 +1,8 @@
 // The board: a recorder that keeps the device's state itself, which can be looked at.
-ghost use Rattle.std.specs.Prelude.{◌≡◌, ℕ, ◌^◌, ◌<◌, if◌then◌else◌, nat_lt};
-ghost use Rattle.command_list.specs.Commands.{byte_of};
+ghost use Rattle.std.specs.Prelude.{◌≡◌, ℕ, ◌+◌, ◌^◌, ◌<◌, if◌then◌else◌, nat_lt, MatchResult};
+ghost use Rattle.command_list.specs.Commands.{byte_of, size};
 ghost use Rattle.device.specs.Devices.{start, unset};
+ghost use Rattle.device.specs.Meaning.{Asked};
 ghost use Rattle.board.specs.Boards.{boarded, device_of, halves_of, slot_of, view_of, no_view, latest_of, Spares};
 
 use crate::state::{RootSlot, State, View};
@@ -109,7 +110,13 @@ impl Recorder for Board {
         self.rest = self.most;
     }
 
-    fn record<C: Recordable>(&mut self, command: C) -> Result<(), Fault> {
+    fn record<C: Recordable>(&mut self, command: C) -> Result<(), Fault>
+        ensures asked { Asked (boarded self.old.state self.old.rest self.old.most)
+            (C.says command) result (boarded self.new.state self.new.rest self.new.most) }
+        ensures spent { MatchResult result
+            (λ _. self.new.rest + size (C.says command) ≡ self.old.rest)
+            (λ _. self.new.rest ≡ self.old.rest) }
+    {
         let bytes = fitting(command.size()?, self.rest)?;
         self.state.step(command);
         self.rest -= bytes;

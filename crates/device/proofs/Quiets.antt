@@ -1,28 +1,20 @@
 -- Commands that change nothing of a device but its counts of codes.
 use Rattle.std.proofs.Common.{◌≡◌, ℕ, Bool, true, false, ◌&&◌, List, [], ◌∷◌, ◌++◌, refl, ◌∙◌}
 use Rattle.std.proofs.lemmas.Bool.{false≢true, and_parts, and_from}
-use Rattle.command_list.specs.Commands.{Command, BeginEvent, EndEvent, SetDescriptorHeaps, SetRootSignature, SetPipelineState, IASetPrimitiveTopology, IASetVertexBuffers, SetRoot32BitConstant, SetRootDescriptorTable, SetRootConstantBufferView, OMSetRenderTargets, ClearRenderTargetView, RSSetViewports, RSSetScissorRects, ResourceBarrier, DrawInstanced, Dispatch, ExecuteIndirect}
+use Rattle.command_list.specs.Commands.{Command, SetRootSignature, SetPipelineState, IASetVertexBuffers, SetRoot32BitConstant, SetRootDescriptorTable, SetRootConstantBufferView, DrawInstanced, Dispatch, ExecuteIndirect}
 use Rattle.device.specs.Devices.{Device, step, play}
 
 abbrev pub is_quiet : Command → Bool
-is_quiet (BeginEvent us) = true
-is_quiet EndEvent = true
-is_quiet (SetDescriptorHeaps on) = true
 is_quiet (SetRootSignature h s) = false
 is_quiet (SetPipelineState p) = false
-is_quiet (IASetPrimitiveTopology t) = true
 is_quiet (IASetVertexBuffers i a s t) = false
 is_quiet (SetRoot32BitConstant h i w v) = false
 is_quiet (SetRootDescriptorTable h i a) = false
 is_quiet (SetRootConstantBufferView h i a) = false
-is_quiet (OMSetRenderTargets hs) = true
-is_quiet (ClearRenderTargetView t a b c e) = true
-is_quiet (RSSetViewports x y w h m n) = true
-is_quiet (RSSetScissorRects l t r b) = true
-is_quiet (ResourceBarrier es) = true
 is_quiet (DrawInstanced a b c e) = false
 is_quiet (Dispatch x y z) = false
 is_quiet (ExecuteIndirect h s n b o) = false
+is_quiet _ = true
 
 abbrev pub are_quiet : List Command → Bool
 are_quiet [] = true
@@ -37,32 +29,23 @@ pub record Still (d e : Device) : Type 0 where
   pub latest : e.latest ≡ d.latest
 
 -- counts alone changed
-still_one : (f : ℕ → ℕ) (d : Device)
-    → Still d (record { halves = d.halves; vertices = d.vertices; vertex_writes = d.vertex_writes; pipeline = d.pipeline; latest = d.latest; counts = f })
+still_one : (f : ℕ → ℕ) (d : Device) → Still d (record d { counts = f })
 still_one f d = record { halves = refl; vertices = refl; vertex_writes = refl; pipeline = refl; latest = refl }
 
 still_none : (d : Device) → Still d d
 still_none d = still_one d.counts d
 
 still_step : (c : Command) (d : Device) → is_quiet c ≡ true → Still d (step c d)
-still_step (BeginEvent us) d q = still_one _ d
-still_step EndEvent d q = still_one _ d
-still_step (SetDescriptorHeaps on) d q = still_one _ d
 still_step (SetRootSignature h s) d q = absurd (false≢true q)
 still_step (SetPipelineState p) d q = absurd (false≢true q)
-still_step (IASetPrimitiveTopology t) d q = still_one _ d
 still_step (IASetVertexBuffers i a s t) d q = absurd (false≢true q)
 still_step (SetRoot32BitConstant h i w v) d q = absurd (false≢true q)
 still_step (SetRootDescriptorTable h i a) d q = absurd (false≢true q)
 still_step (SetRootConstantBufferView h i a) d q = absurd (false≢true q)
-still_step (OMSetRenderTargets hs) d q = still_one _ d
-still_step (ClearRenderTargetView t a b c e) d q = still_one _ d
-still_step (RSSetViewports x y w h m n) d q = still_one _ d
-still_step (RSSetScissorRects l t r b) d q = still_one _ d
-still_step (ResourceBarrier es) d q = still_one _ d
 still_step (DrawInstanced a b c e) d q = absurd (false≢true q)
 still_step (Dispatch x y z) d q = absurd (false≢true q)
 still_step (ExecuteIndirect h s n b o) d q = absurd (false≢true q)
+still_step _ d q = still_one _ d
 
 -- quiet commands, one after the other, leave a device still
 pub quiet_played : (cs : List Command) (d : Device) → are_quiet cs ≡ true → Still d (play cs d)

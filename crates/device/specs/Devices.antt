@@ -2,7 +2,7 @@
 use Rattle.std.specs.Prelude.{ℕ, ◌+◌, cond, List, [], ◌∷◌, Some, None, Option, ◌==◌}
 use Rattle.command_list.specs.declared.command.Half.{Half}
 use Rattle.command_list.specs.declared.command.Half.TheVariants.{Graphics, Compute}
-use Rattle.command_list.specs.Commands.{Command, code_of, byte_of, BeginEvent, EndEvent, SetDescriptorHeaps, SetRootSignature, SetPipelineState, IASetPrimitiveTopology, IASetVertexBuffers, SetRoot32BitConstant, SetRootDescriptorTable, SetRootConstantBufferView, OMSetRenderTargets, ClearRenderTargetView, RSSetViewports, RSSetScissorRects, ResourceBarrier, DrawInstanced, Dispatch, ExecuteIndirect}
+use Rattle.command_list.specs.Commands.{Command, code_of, byte_of, SetRootSignature, SetPipelineState, IASetVertexBuffers, SetRoot32BitConstant, SetRootDescriptorTable, SetRootConstantBufferView, DrawInstanced, Dispatch, ExecuteIndirect}
 
 -- what a root slot holds: nothing, a table's or a view's address, or words, each unset or a number
 pub data Slot : Type 0 where
@@ -43,18 +43,16 @@ more i f = update f i (f i + 1)
 
 -- the words of a slot; a slot of another kind has none
 abbrev pub words_of : Slot → ℕ → Option ℕ
-words_of unset w = None
-words_of (table a) w = None
-words_of (view a) w = None
 words_of (words f) w = f w
+words_of _ w = None
 
 -- a signature unlike the half's own replaces it and unsets its slots; the same one keeps them
 abbrev pub signed : ℕ → Roots → Roots
-signed s r = cond (r.signature == s) r (record { signature = s; slots = λ i. unset; writes = r.writes })
+signed s r = cond (r.signature == s) r (record r { signature = s; slots = λ i. unset })
 
 -- a slot is replaced, which is a write
 abbrev pub written : ℕ → Slot → Roots → Roots
-written i x r = record { signature = r.signature; slots = update r.slots i x; writes = more i r.writes }
+written i x r = record r { slots = update r.slots i x; writes = more i r.writes }
 
 -- a word is set, which is a write; another kind of slot first turns into unset words
 abbrev pub worded : ℕ → ℕ → ℕ → Roots → Roots
@@ -63,7 +61,7 @@ worded i w v r = written i (words (update (words_of (r.slots i)) w (Some v))) r
 -- an indirect call with an own signature unsets its special slot, which is no write
 abbrev pub wiped : Option ℕ → Roots → Roots
 wiped None r = r
-wiped (Some i) r = record { signature = r.signature; slots = update r.slots i unset; writes = r.writes }
+wiped (Some i) r = record r { slots = update r.slots i unset }
 
 abbrev pub other : Half → Half
 other Graphics = Compute
@@ -72,45 +70,40 @@ other Compute = Graphics
 -- the halves with one of them changed
 abbrev pub changed : Half → (Roots → Roots) → (Half → Roots) → Half → Roots
 changed Graphics f hs Graphics = f (hs Graphics)
-changed Graphics f hs Compute = hs Compute
-changed Compute f hs Graphics = hs Graphics
 changed Compute f hs Compute = f (hs Compute)
+changed _ f hs g = hs g
 
 abbrev pub on_half : Half → (Roots → Roots) → Device → Device
-on_half h f d = record { halves = changed h f d.halves; vertices = d.vertices; vertex_writes = d.vertex_writes; pipeline = d.pipeline; latest = d.latest; counts = d.counts }
+on_half h f d = record d { halves = changed h f d.halves }
 
 abbrev pub attached : ℕ → VertexView → Device → Device
-attached i v d = record { halves = d.halves; vertices = update d.vertices i v; vertex_writes = more i d.vertex_writes; pipeline = d.pipeline; latest = d.latest; counts = d.counts }
+attached i v d = record d {
+  vertices = update d.vertices i v;
+  vertex_writes = more i d.vertex_writes;
+}
 
 abbrev pub piped : ℕ → Device → Device
-piped p d = record { halves = d.halves; vertices = d.vertices; vertex_writes = d.vertex_writes; pipeline = p; latest = d.latest; counts = d.counts }
+piped p d = record d { pipeline = p }
 
 abbrev pub drawn : Command → Device → Device
-drawn c d = record { halves = d.halves; vertices = d.vertices; vertex_writes = d.vertex_writes; pipeline = d.pipeline; latest = Some c; counts = d.counts }
+drawn c d = record d { latest = Some c }
 
 abbrev pub counted : ℕ → Device → Device
-counted k d = record { halves = d.halves; vertices = d.vertices; vertex_writes = d.vertex_writes; pipeline = d.pipeline; latest = d.latest; counts = more k d.counts }
+counted k d = record d { counts = more k d.counts }
 
 -- what a command changes besides its code's count
 abbrev pub effect : Command → Device → Device
-effect (BeginEvent us) d = d
-effect EndEvent d = d
-effect (SetDescriptorHeaps on) d = d
 effect (SetRootSignature h s) d = on_half h (signed s) d
 effect (SetPipelineState p) d = piped p d
-effect (IASetPrimitiveTopology t) d = d
 effect (IASetVertexBuffers i a s t) d = attached i (record { address = a; size = s; stride = t }) d
 effect (SetRoot32BitConstant h i w v) d = on_half h (worded i w v) d
 effect (SetRootDescriptorTable h i a) d = on_half h (written i (table a)) d
 effect (SetRootConstantBufferView h i a) d = on_half h (written i (view a)) d
-effect (OMSetRenderTargets hs) d = d
-effect (ClearRenderTargetView t a b c e) d = d
-effect (RSSetViewports x y w h m n) d = d
-effect (RSSetScissorRects l t r b) d = d
-effect (ResourceBarrier es) d = d
 effect (DrawInstanced a b c e) d = drawn (DrawInstanced a b c e) d
 effect (Dispatch x y z) d = drawn (Dispatch x y z) d
-effect (ExecuteIndirect h s n b o) d = drawn (ExecuteIndirect h s n b o) (on_half h (wiped s) d)
+effect (ExecuteIndirect h s n b o) d =
+    drawn (ExecuteIndirect h s n b o) (on_half h (wiped s) d)
+effect _ d = d
 
 -- one command
 abbrev pub step : Command → Device → Device

@@ -69,4 +69,4 @@ pub record Anew (m n : Meaning) : Type 0 where
 
 -- a recorder's meaning under an allowance of bytes, of which so much is left
 abbrev pub rationed : ℕ → ℕ → Meaning → Meaning
-rationed rest most m = record { device = m.device; space = min rest m.space; made = min most m.made; shown = m.shown }
+rationed rest most m = record m { space = min rest m.space; made = min most m.made }

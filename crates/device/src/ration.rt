@@ -1,22 +1,29 @@
 // A recorder with an allowance of bytes of its own.
-ghost use Rattle.std.specs.Prelude.{◌≡◌};
-ghost use Rattle.device.specs.Meaning.{Anew, rationed};
+ghost use Rattle.std.specs.Prelude.{◌≡◌, ◌+◌, List, [], ◌∷◌, Some, MatchResult};
+ghost use Rattle.command_list.specs.Commands.{Command, size};
+ghost use Rattle.device.specs.Meaning.{Anew, Asked, Recorded, sizes, rationed};
 
 use crate::recorder::{Recorder, fitting};
 use command_list::fault::Fault;
 use list_writer::writer::Recordable;
 
 #[derive(Drop)]
-pub struct Ration<R> {
+pub struct Ration<R: Recorder> {
     below: R,
     rest: usize,
     most: usize,
+    // Where what is below shows its commands, these and what is left are the allowance.
+    ghost spent: { (cs : List Command) →
+        (R.meaning below).shown ≡ Some cs → rest + sizes cs ≡ most },
 }
 
 impl<R: Recorder> Ration<R> {
     // An allowance over a recorder, which is started anew.
     pub fn new(mut below: R, most: usize) -> Ration<R>
-        ensures { Anew (rationed most most (R.meaning below)) (rationed result.rest result.most (R.meaning result.below)) }
+        ensures anew { Anew (rationed most most (R.meaning below))
+            (rationed result.rest result.most (R.meaning result.below)) }
+        ensures whole { (result.rest ≡ most) × (result.most ≡ most) }
+        ensures below { Anew (R.meaning below) (R.meaning result.below) }
     {
         below.start_anew();
         Ration {
@@ -46,13 +53,27 @@ impl<R: Recorder> Recorder for Ration<R> {
         self.rest.min(self.below.space())
     }
 
-    fn start_anew(&mut self) {
+    fn start_anew(&mut self)
+        ensures anew { Anew (rationed self.old.rest self.old.most (R.meaning self.old.below))
+            (rationed self.new.rest self.new.most (R.meaning self.new.below)) }
+        ensures whole { (self.new.rest ≡ self.old.most) × (self.new.most ≡ self.old.most) }
+        ensures below { Anew (R.meaning self.old.below) (R.meaning self.new.below) }
+    {
         self.below.start_anew();
         self.rest = self.most;
     }
 
-    // The board's has this frame too, round a state and no recorder: a function over the middle line is no plainer.
-    fn record<C: Recordable>(&mut self, command: C) -> Result<(), Fault> {
+    fn record<C: Recordable>(&mut self, command: C) -> Result<(), Fault>
+        ensures asked { Asked (rationed self.old.rest self.old.most (R.meaning self.old.below))
+            (C.says command) result (rationed self.new.rest self.new.most (R.meaning self.new.below)) }
+        ensures spent { MatchResult result
+            (λ _. self.new.rest + size (C.says command) ≡ self.old.rest)
+            (λ _. self.new.rest ≡ self.old.rest) }
+        ensures most { self.new.most ≡ self.old.most }
+        ensures below { MatchResult result
+            (λ _. Recorded (R.meaning self.old.below) (C.says command ∷ []) (R.meaning self.new.below))
+            (λ _. R.meaning self.new.below ≡ R.meaning self.old.below) }
+    {
         let bytes = fitting(command.size()?, self.rest)?;
         self.below.record(command)?;
         self.rest -= bytes;

@@ -1,16 +1,16 @@
 -- What one record more means.
-use Rattle.std.proofs.Common.{◌≡◌, ℕ, zero, suc, ◌-◌, ◌<◌, ◌≤◌, true, false, ltb, leb, ◌⊎◌, List, [], ◌∷◌, ◌++◌, length, take, drop, Some, sym, refl, ap, ◌∙◌, ⊎_elim, arith, length-append, length-drop, inl, inr}
+use Rattle.std.proofs.Common.{◌≡◌, ℕ, zero, suc, ◌-◌, ◌≤◌, true, List, [], ◌∷◌, ◌++◌, length, take, drop, Some, sym, refl, ap, ◌∙◌, arith, append_assoc, length-append, length-drop, take_at, drop_at, drop-drop}
 use Rattle.std.proofs.lemmas.List.{length-take-le}
-use Rattle.std.proofs.lemmas.Bool.{cases_lt, lt-ltb, ltb-false, false≢true, cond-true, cond-false, le-leb, lt-leb, and_parts}
-use Rattle.command_list.specs.Commands.{Command, record_of, framed, code_of, fields}
+use Rattle.std.proofs.lemmas.Bool.{false≢true, cond-true, and_parts}
+use Rattle.command_list.specs.Commands.{Command, record_of, size, framed, code_of, fields}
 use Rattle.command_list.specs.Decoding.{front}
 use Rattle.command_list.specs.Files.{Verdict, accepted, refused, file, records, has_version, is_accepted}
 use Rattle.list_writer.specs.Writing.{Wrote, Began}
 use Rattle.list_writer.proofs.Rows.{length_bytes}
-use Rattle.list_writer.proofs.Whole.{file_is}
+use Rattle.list_writer.proofs.Whole.{file_is, some_byte}
 use Rattle.device.specs.Devices.{Device, play, step, start}
 use Rattle.device.specs.Meaning.{Taken, Anew}
-use Rattle.list_bytes.specs.Listed.{is_whole, commands_in, listed, Opened, room_for}
+use Rattle.list_bytes.specs.Listed.{is_whole, commands_in, listed, Opened}
 
 pub play_more : (cs : List Command) (c : Command) (d : Device) → play (cs ++ (c ∷ [])) d ≡ step c (play cs d)
 play_more [] c d = refl
@@ -20,12 +20,9 @@ accepted_is : (v : Verdict) → is_accepted v ≡ true → v ≡ accepted (comma
 accepted_is (accepted cs) e = refl
 accepted_is (refused r p) e = absurd (false≢true e)
 
-module _ (c : Command) (xs ys : List ℕ) (n m : ℕ) (w : is_whole xs n ≡ ltb 0 (length xs)) (g : Wrote c xs n m ys) where
-  some_bytes : 0 < length xs
-  some_bytes = omega (arith, g.ends, g.within)
-
+module _ (c : Command) (xs ys : List ℕ) (n m : ℕ) (w : is_whole xs n ≡ true) (g : Wrote c xs n m ys) where
   before : file (take n xs) ≡ accepted (commands_in (file (take n xs)))
-  before = accepted_is (file (take n xs)) (w ∙ lt-ltb 0 (length xs) some_bytes)
+  before = accepted_is (file (take n xs)) w
 
   after : file (take m ys) ≡ accepted (commands_in (file (take n xs)) ++ (c ∷ []))
   after = g.reads (commands_in (file (take n xs))) before
@@ -39,11 +36,34 @@ module _ (c : Command) (xs ys : List ℕ) (n m : ℕ) (w : is_whole xs n ≡ ltb
       let d = length-drop m xs in
       ap length g.wrote ∙ omega (arith, g.ends, g.within)
 
+  abbrev longer : List ℕ
+  longer = take n xs ++ record_of c
+
+  joined : ys ≡ longer ++ drop m xs
+  joined = g.wrote ∙ sym (append_assoc (take n xs) (record_of c) (drop m xs))
+
+  longer_long : length longer ≡ m
+  longer_long =
+      let t : length (take n xs) ≡ n = length-take-le n xs (omega (arith, g.ends, g.within)) in
+      let a = length-append (take n xs) (record_of c) in
+      let l = length_bytes (framed (code_of c) (fields c)) in
+      omega (arith, g.ends)
+
+  -- the record stands behind the list
+  pub in_use_more : take m ys ≡ take n xs ++ record_of c
+  in_use_more = ap (take m) joined ∙ take_at longer (drop m xs) m longer_long
+
+  -- what was behind the list's new end stays
+  pub unused_more : drop m ys ≡ drop (size c) (drop n xs)
+  unused_more =
+      ap (drop m) joined ∙ drop_at longer (drop m xs) m longer_long
+      ∙ ap (λ k. drop k xs) g.ends ∙ sym (drop-drop (size c) n xs)
+
   commands : commands_in (file (take m ys)) ≡ commands_in (file (take n xs)) ++ (c ∷ [])
   commands = ap commands_in after
 
-  pub still_whole : is_whole ys m ≡ ltb 0 (length ys)
-  still_whole = ap is_accepted after ∙ sym (lt-ltb 0 (length ys) (omega (arith, some_bytes, same_length)))
+  pub still_whole : is_whole ys m ≡ true
+  still_whole = ap is_accepted after
 
   pub still_within : m ≤ length ys
   still_within = omega (arith, g.within, same_length)
@@ -66,63 +86,40 @@ module _ (c : Command) (xs ys : List ℕ) (n m : ℕ) (w : is_whole xs n ≡ ltb
   }
 
 -- a list file begins with its version, which alone is an empty list file
-version_only : (xs : List ℕ) (n : ℕ) → 0 < n → is_accepted (file (take n xs)) ≡ true → file (take 1 xs) ≡ accepted []
+version_only : (xs : List ℕ) (n : ℕ) → is_whole xs n ≡ true → file (take 1 xs) ≡ accepted []
 unfolding file records front
-version_only xs zero h e = absurd (omega arith)
-version_only [] (suc n) h e = absurd (false≢true e)
-version_only (x ∷ xs) (suc n) h e =
+version_only xs zero e = absurd (false≢true e)
+version_only [] (suc n) e = absurd (false≢true e)
+version_only (x ∷ xs) (suc n) e =
     let o = file_is (take (suc n) (x ∷ xs)) _ (accepted_is (file (take (suc n) (x ∷ xs))) e) in
     cond-true (has_version (x ∷ [])) _ _ (and_parts _ _ o.version).1
 
-none_at_0 : (xs : List ℕ) (n : ℕ) → n ≤ 0 → is_whole xs n ≡ false
-unfolding file
-none_at_0 xs zero h = refl
-none_at_0 xs (suc n) h = absurd (omega arith)
+module _ (xs : List ℕ) (n : ℕ) (w : is_whole xs n ≡ true) where
+  pub anew_whole : is_whole xs 1 ≡ true
+  anew_whole = ap is_accepted (version_only xs n w)
 
-module _ (xs : List ℕ) (n : ℕ) (w : is_whole xs n ≡ ltb 0 (length xs)) where
-  only_first : n ≤ length xs → 0 < n → file (take 1 xs) ≡ accepted []
-  only_first l h = version_only xs n h (w ∙ lt-ltb 0 (length xs) (omega arith))
+  pub anew_within : n ≤ length xs → 1 ≤ length xs
+  anew_within l =
+      let z = some_byte (take n xs) (file_is (take n xs) _ (accepted_is _ w)).version in
+      let t = length-take-le n xs l in
+      omega arith
 
-  pub anew_whole : n ≤ length xs → 0 < n → is_whole xs 1 ≡ ltb 0 (length xs)
-  anew_whole l h = ap is_accepted (only_first l h) ∙ sym (lt-ltb 0 (length xs) (omega arith))
-
-  pub anew_listed : n ≤ length xs → 0 < n → Anew (listed xs n) (listed xs 1)
-  anew_listed l h =
-      let e : commands_in (file (take 1 xs)) ≡ [] = ap commands_in (only_first l h) in
+  pub anew_listed : Anew (listed xs n) (listed xs 1)
+  anew_listed =
+      let e : commands_in (file (take 1 xs)) ≡ [] = ap commands_in (version_only xs n w) in
       record { device = ap (λ cs. play cs start) e; space = refl; made = refl; shown = ap Some e }
 
-  pub anew_none : n ≤ 0 → Anew (listed xs n) (listed xs n)
-  unfolding file
-  anew_none l =
-      let none : n ≡ 0 = omega arith in
-      let empty : length xs ≤ 0 = ltb-false 0 (length xs) (sym w ∙ none_at_0 xs n l) in
-      let e : commands_in (file (take n xs)) ≡ [] = ap (λ k. commands_in (file (take k xs))) none in
-      record { device = ap (λ cs. play cs start) e; space = omega arith; made = refl; shown = ap Some e }
-
 -- a list that was begun
-pub began_whole : (xs : List ℕ) (n : ℕ) (ys : List ℕ) → Began xs n ys → is_whole ys n ≡ ltb 0 (length ys)
-began_whole xs n ys g = ap is_accepted g.reads ∙ sym (lt-ltb 0 (length ys) (let l = ap length g.wrote in omega arith))
+module _ (xs : List ℕ) (n : ℕ) (ys : List ℕ) (g : Began xs n ys) where
+  pub began_long : length ys ≡ length xs
+  began_long = ap length g.wrote ∙ simp length-drop (omega (arith, g.some))
 
-pub began_long : (xs : List ℕ) (n : ℕ) (ys : List ℕ) → Began xs n ys → length ys ≡ length xs
-began_long xs n ys g = ap length g.wrote ∙ simp length-drop (omega (arith, g.some))
-
-pub began_opened : (xs : List ℕ) (n : ℕ) (ys : List ℕ) → Began xs n ys → Opened (length xs) (listed ys n)
-began_opened xs n ys g =
-    let e : commands_in (file (take n ys)) ≡ [] = ap commands_in g.reads in
-    let room : length ys - 1 ≡ room_for (length xs) = ap (λ l. l - 1) (began_long xs n ys g) ∙ sym (cond-true (leb (length xs) 65536) _ _ (le-leb _ 65536 g.short)) in
-    record { device = ap (λ cs. play cs start) e; space = ap (λ k. length ys - k) g.ends ∙ room; made = room; shown = ap Some e }
-
--- none could be begun
-pub unbegun_none : (n : ℕ) → (0 < n → n ≤ 65536 → ⊥) → (n ≡ 0) ⊎ (65536 < n)
-unbegun_none zero h = inl refl
-unbegun_none (suc n) h = ⊎_elim {A = 65536 < suc n} {B = suc n ≤ 65536} (λ l. inr l) (λ l. absurd (h (omega arith) l)) (cases_lt 65536 (suc n))
-
-pub opened_none : (n : ℕ) → ((n ≡ 0) ⊎ (65536 < n)) → Opened n (listed [] 0)
-unfolding file
-opened_none n w =
-    let room : 0 ≡ room_for n = ⊎_elim (λ e. sym (ap room_for e)) (λ l. sym (cond-false (leb n 65536) _ _ (lt-leb n 65536 l))) w in
-    record { device = refl; space = room; made = room; shown = refl }
-
-pub none_whole : is_whole [] 0 ≡ false
-unfolding file
-none_whole = refl
+  pub began_opened : Opened (length xs) (listed ys n)
+  began_opened =
+      let e : commands_in (file (take n ys)) ≡ [] = ap commands_in g.reads in
+      record {
+        device = ap (λ cs. play cs start) e;
+        space = omega (arith, began_long, g.ends);
+        made = ap (λ l. l - 1) began_long;
+        shown = ap Some e;
+      }

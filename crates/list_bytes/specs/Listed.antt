@@ -1,5 +1,5 @@
 -- What list bytes mean: it is read off the bytes themselves.
-use Rattle.std.specs.Prelude.{◌≡◌, ℕ, ◌-◌, Bool, cond, List, [], length, take, Some, nat_le}
+use Rattle.std.specs.Prelude.{◌≡◌, ℕ, ◌-◌, ◌≤◌, Bool, List, [], length, take, Some}
 use Rattle.command_list.specs.Commands.{Command}
 use Rattle.command_list.specs.Files.{Verdict, accepted, refused, file, is_accepted}
 use Rattle.device.specs.Devices.{play, start}
@@ -22,13 +22,13 @@ listed bs n = record {
   shown = Some (commands_in (file (take n bs)));
 }
 
--- the space of a list over so many bytes: 1 to 65536 of them hold one
-abbrev pub room_for : ℕ → ℕ
-room_for n = cond (nat_le n 65536) (n - 1) 0
+-- so many bytes can hold a list
+abbrev pub HoldsList : ℕ → Type 0
+HoldsList n = (1 ≤ n) × (n ≤ 65536)
 
 -- an empty list over n bytes
 pub record Opened (n : ℕ) (m : Meaning) : Type 0 where
   pub device : m.device ≡ start
-  pub space : m.space ≡ room_for n
-  pub made : m.made ≡ room_for n
+  pub space : m.space ≡ n - 1
+  pub made : m.made ≡ n - 1
   pub shown : m.shown ≡ Some []

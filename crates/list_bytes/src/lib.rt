@@ -1,24 +1,15 @@
 // A recorder that writes its commands into the caller's bytes.
 #![tactic(auto)]
 
-ghost use Rattle.std.specs.Prelude.{◌≡◌, ℕ, ◌<◌, ◌≤◌, ◌&&◌, length, take, MatchResult, nat_le, nat_lt};
+ghost use Rattle.std.specs.Prelude.{◌≡◌, ◌↔◌, ◌≤◌, true, [], ◌∷◌, ◌++◌, length, drop, IsOk, IfOk, IfErr};
+ghost use Rattle.command_list.specs.Commands.{record_of, size};
 ghost use Rattle.command_list.specs.Seen.{IsFault};
-ghost use Rattle.list_bytes.specs.Listed.{is_whole, listed, Opened};
+ghost use Rattle.device.specs.Meaning.{Anew, Asked};
+ghost use Rattle.list_bytes.specs.Listed.{is_whole, listed, HoldsList, Opened};
 
-use command_list::fault::{FULL, Fault};
-use command_list::reader::MOST_BYTES;
+use command_list::fault::Fault;
 use device::recorder::Recorder;
 use list_writer::writer::{Recordable, begin};
-
-// Bytes that a list can be kept in: 1 to 65536.
-pub fn measured<'a>(bytes: &'a mut [u8]) -> Result<&'a mut [u8], Fault>
-    ensures { MatchResult result (λ s. (s.now ≡ bytes.old) × (0 < length bytes.old) × (length bytes.old ≤ 65536)) (λ f. IsFault f 10 0 × (0 < length bytes.old → length bytes.old ≤ 65536 → ⊥)) }
-{
-    if bytes.is_empty() || bytes.len() > MOST_BYTES {
-        return Err(FULL);
-    }
-    Ok(bytes)
-}
 
 // The caller's bytes, of which those in use are a list file. One of no bytes at all has no space.
 // The bytes are lent, with the number of those in use beside them: no list here has memory of its own.
@@ -28,26 +19,30 @@ pub struct ListBytes<'a> {
     len: usize,
     ghost within: { len ≤ length bytes.now },
     ghost small: { length bytes.now ≤ 65536 },
-    ghost whole: { is_whole bytes.now len ≡ nat_lt 0 (length bytes.now) },
+    ghost whole: { is_whole bytes.now len ≡ true },
 }
 
 impl<'a> ListBytes<'a> {
-    // An empty list over the caller's bytes. Bytes that cannot hold a list give one with no space.
-    pub fn new(bytes: &'a mut [u8]) -> ListBytes<'a>
-        ensures { Opened (length bytes.old) (listed result.bytes.now result.len) }
+    ghost use Rattle.list_bytes.specs.Lists.{meaning_of, in_use, unused};
+
+    /// An empty list over the caller's bytes: its version stands in the first of them, the others
+    /// are as they were. Refused with 10 where they are none or more than 65536, before anything is
+    /// written.
+    pub fn new(bytes: &'a mut [u8]) -> Result<ListBytes<'a>, Fault>
+        ensures taken { IsOk result ↔ HoldsList (length bytes.old) }
+        ensures opened { IfOk result (λ s.
+            Opened (length bytes.old) (meaning_of s)) }
+        ensures version { IfOk result (λ s. in_use s ≡ 1 ∷ []) }
+        ensures rest { IfOk result (λ s. unused s ≡ drop 1 bytes.old) }
+        ensures refused { IfErr result (λ f. IsFault f 10 0) }
     {
-        let Ok(len) = begin(bytes) else {
-            return ListBytes {
-                bytes: &mut bytes[0..0],
-                len: 0,
-            };
-        };
-        ListBytes { bytes, len }
+        let len = begin(bytes)?;
+        Ok(ListBytes { bytes, len })
     }
 
     // The bytes that the list takes, for reading.
     pub fn list(&self) -> &[u8]
-        ensures { result.now ≡ take self.now.len self.now.bytes.now }
+        ensures { result.now ≡ in_use self.now }
     {
         &self.bytes[0..self.len]
     }
@@ -65,21 +60,31 @@ impl<'a> ListBytes<'a> {
 }
 
 impl<'a> Recorder for ListBytes<'a> {
-    ghost meaning = { λ s. listed s.bytes.now s.len };
+    ghost use Rattle.list_bytes.specs.Lists.{meaning_of, bytes_of, in_use, unused};
+
+    ghost meaning = { meaning_of };
 
     fn space(&self) -> usize {
         self.bytes.len() - self.len
     }
 
-    fn start_anew(&mut self) {
-        if self.len > 0 {
-            self.len = 1;
-        }
+    fn start_anew(&mut self)
+        ensures anew { Anew (meaning_of self.old) (meaning_of self.new) }
+        ensures bytes { bytes_of self.new ≡ bytes_of self.old }
+    {
+        self.len = 1;
     }
 
     // Inlined, for the writer's sake.
     #[inline(always)]
-    fn record<C: Recordable>(&mut self, command: C) -> Result<(), Fault> {
+    fn record<C: Recordable>(&mut self, command: C) -> Result<(), Fault>
+        ensures asked { Asked (meaning_of self.old) (C.says command) result (meaning_of self.new) }
+        ensures list { IfOk result (λ _.
+            in_use self.new ≡ in_use self.old ++ record_of (C.says command)) }
+        ensures rest { IfOk result (λ _.
+            unused self.new ≡ drop (size (C.says command)) (unused self.old)) }
+        ensures refused { IfErr result (λ _. bytes_of self.new ≡ bytes_of self.old) }
+    {
         self.len = command.append_to(self.bytes, self.len)?;
         Ok(())
     }

@@ -15,8 +15,8 @@ invariant_of-self g c =
     let z = sized (g.C.Recordable.says c.args.command) _ _ _ c.in_ok-size.ensures c.in_ok-bytes.ensures in
     record { small = s.small; spare = spares_made _ (device_of s.state) _ _ _ _ z c.step.ensures s.spare }
 
-pub returns : goal.returns
-returns g c =
+pub returns-clause-asked : goal.returns-clause-asked
+returns-clause-asked g c =
     let s = c.args.self.now in
     let z = sized (g.C.Recordable.says c.args.command) _ _ _ c.in_ok-size.ensures c.in_ok-bytes.ensures in
     board_taken _ s.state _ _ _ _ z c.step.ensures
