@@ -1,6 +1,7 @@
 // Usages turned into Direct3D's states.
 ghost use Rattle.std.specs.Prelude.{◌≡◌, if◌then◌else◌, bit_and, bit_or, nat_eq, fold};
-ghost use Rattle.resources.specs.States.{has, common, all_shader_resource};
+ghost use Rattle.command_list.specs.Bits.{bit};
+ghost use Rattle.resources.specs.States.{common, all_shader_resource};
 ghost use Rattle.resources.specs.Usages.{Stated, buffer, texture};
 
 use crate::uses::{BufferUses, TextureUses};
@@ -47,7 +48,7 @@ fn brought(bits: u32, flags: &[(u32, u32)]) -> u32
 
 // Storage that is only read is a shader's resource, unless it is written too.
 fn reads_storage(bits: u32) -> u32
-    ensures { result ≡ (if has bits 6 then common else all_shader_resource) }
+    ensures { result ≡ (if bit bits 6 then common else all_shader_resource) }
 {
     if bits & BufferUses::STORAGE_READ_WRITE != 0 {
         COMMON
