@@ -15,8 +15,8 @@ use Rattle.bindings.specs.Constants.{bits32, constants}
 use Rattle.passes.specs.declared.element.RootElement.{RootElement}
 use Rattle.passes.specs.declared.element.RootElement.TheVariants.{Empty, Immediates, SpecialConstants, DescriptorTable, DynamicUniformBuffer}
 
--- what is bound at the root slots: the layout whose slots draws use, an element for each slot, the words of the
--- immediates, and the slots touched since the last mark
+-- what is bound at the root slots: the layout whose slots draws use, an element for each slot, the
+-- words of the immediates, and the slots touched since the last mark
 pub record Bound : Type 0 where
   pub layout : Option PipelineLayout
   pub elements : ℕ → RootElement
@@ -92,7 +92,8 @@ placed (Some i) e f = update f i e
 abbrev pub zeros : Constants
 zeros = constants 0 0 0
 
--- a layout becomes current: its special element is three zeros, its slots are touched, and no others are
+-- a layout becomes current: its special element is three zeros, its slots are touched, and no
+-- others are
 abbrev pub renewed : PipelineLayout → Bound → Bound
 renewed l b = record b {
   layout = Some l;
@@ -138,7 +139,8 @@ abbrev pub is_constants : Constants → RootElement → Bool
 is_constants s (SpecialConstants t) = same_constants s t
 is_constants s _ = false
 
--- the special constants of the next draw at a slot, which is touched only if they differ from those there
+-- the special constants of the next draw at a slot, which is touched only if they differ from those
+-- there
 abbrev pub constants_at : Option ℕ → Constants → Bound → Bound
 constants_at None s b = b
 constants_at (Some i) s b = cond (is_constants s (b.elements i)) b (filled i (SpecialConstants s) b)

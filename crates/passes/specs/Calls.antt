@@ -113,7 +113,8 @@ abbrev pub is_signed : ℕ → Option Pipeline → Bool
 is_signed s None = false
 is_signed s (Some p) = s == p.signature
 
--- the root signature is recorded first where the current layout's, or the last one set in this pass, is another
+-- the root signature is recorded first where the current layout's, or the last one set in this
+-- pass, is another
 abbrev pub signature_first : Half → ℕ → Option PipelineLayout → Option Pipeline → List Command
 signature_first h s l p =
     cond (is_current s l && is_signed s p) [] (SetRootSignature h s ∷ [])
@@ -176,7 +177,8 @@ abbrev pub wiped_slot : Option Constants → Option PipelineLayout → Option �
 wiped_slot None l = own_slot l
 wiped_slot _ l = None
 
--- the account behind a draw: nothing is touched, and nothing is known of a slot that an indirect call wiped
+-- the account behind a draw: nothing is touched, and nothing is known of a slot that an indirect
+-- call wiped
 abbrev pub after_draw : DrawCall → Account → Account
 after_draw c a = record a {
   roots = untouched (emptied (wiped_slot (own_constants c) a.roots.layout) (prepared c a.roots));
@@ -246,8 +248,8 @@ asks_layout l current = unless (agrees l current) (fault 6 0)
 abbrev pub words_fit : ℕ → ℕ → Bool
 words_fit at n = at % 4 == 0 && nat_le (at / 4 + n) 32
 
--- a binding's offset lies within its buffer (a size that is given may reach past the end), its address is below
--- 2 ^ 64 and its size below 2 ^ 32
+-- a binding's offset lies within its buffer (a size that is given may reach past the end), its
+-- address is below 2 ^ 64 and its size below 2 ^ 32
 abbrev pub binding_fits : BufferBinding → Bool
 binding_fits x =
     nat_lt (address_of x) (2 ^ 64)
@@ -273,8 +275,8 @@ asks_set (set_compute_pipeline p) current = asks_pipeline p.handle p.layout curr
 asks_set (set_vertex_buffer i x) current =
     before (unless (nat_lt i 16) (fault 1 0)) (unless (binding_fits x) (fault 5 0))
 
--- 7: no pipeline of the current signature is set. 8, with the lowest such slot: some slot beside the special one
--- has no element of its owner's kind
+-- 7: no pipeline of the current signature is set. 8, with the lowest such slot: some slot beside
+-- the special one has no element of its owner's kind
 abbrev pub drawable : Option Pipeline → Option PipelineLayout → (ℕ → RootElement) → Option Why
 drawable (Some p) (Some l) f =
     before (unless (p.signature == l.signature) (fault 7 0))

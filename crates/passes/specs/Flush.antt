@@ -34,7 +34,7 @@ abbrev pub words_used : Option PipelineLayout → ℕ
 words_used None = 0
 words_used (Some l) = size_of l.immediates_info
 
--- the first two words in a render pass, all three in a compute pass, each as the unsigned number of its bits
+-- a draw has its first two words, a dispatch all three; a signed word is written as the same 32 bits
 abbrev pub constant_words : Half → Constants → List ℕ
 constant_words Graphics s = bits32 s.first_vertex_or_x ∷ s.first_instance_or_y ∷ []
 constant_words Compute s = bits32 s.first_vertex_or_x ∷ s.first_instance_or_y ∷ s.unused_or_z ∷ []

@@ -57,7 +57,8 @@ put_back (Some p) f = update f p.0 p.1
 abbrev pub restored : Replaced → Bound → Bound
 restored r b = record b { elements = put_back r.element b.elements; touched = bit r.dirty }
 
--- what a set call makes of the record: it is refused by the first check that fails, and then nothing alters
+-- what a set call makes of the record: it is refused by the first check that fails, and then
+-- nothing alters
 abbrev pub Sets : SetCall → PassState → Result Unit Fault → PassState → Type 0
 Sets c p (Ok u) q = (asks_set c p.roots.layout ≡ None) × (account q ≡ after_set c (account p))
 Sets c p (Err f) q = (asks_set c p.roots.layout ≡ Some (why_of f)) × (q ≡ p)
