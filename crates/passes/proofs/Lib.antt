@@ -4,3 +4,4 @@ pub mod Slots
 pub mod Filling
 pub mod Strides
 pub mod Unfit
+pub mod Firsts

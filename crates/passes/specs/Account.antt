@@ -15,7 +15,8 @@ use Rattle.bindings.specs.Constants.{bits32, constants}
 use Rattle.passes.specs.declared.element.RootElement.{RootElement}
 use Rattle.passes.specs.declared.element.RootElement.TheVariants.{Empty, Immediates, SpecialConstants, DescriptorTable, DynamicUniformBuffer}
 
--- what is bound at the root slots: the layout whose slots draws use, an element for each slot, the immediates' words, and the slots touched since the last mark
+-- what is bound at the root slots: the layout whose slots draws use, an element for each slot, the
+-- words of the immediates, and the slots touched since the last mark
 pub record Bound : Type 0 where
   pub layout : Option PipelineLayout
   pub elements : ℕ → RootElement
@@ -46,22 +47,29 @@ abbrev pub no_view : VertexView
 no_view = record { address = 0; size = 0; stride = 0 }
 
 abbrev pub nothing_bound : Bound
-nothing_bound = record { layout = None; elements = λ k. Empty; immediates = λ w. 0; touched = λ k. false }
+nothing_bound =
+    record { layout = None; elements = λ k. Empty; immediates = λ w. 0; touched = λ k. false }
 
 abbrev pub no_views : Views
 no_views = record { views = λ i. no_view; touched = λ i. false }
 
 abbrev pub opened : Half → Bool → Account
-opened h labelled = record { half = h; labelled = labelled; pipeline = None; roots = nothing_bound; vertices = no_views }
+opened h labelled = record {
+  half = h;
+  labelled = labelled;
+  pipeline = None;
+  roots = nothing_bound;
+  vertices = no_views;
+}
 
 -- ---- root slots
 
 abbrev pub with_roots : Bound → Account → Account
-with_roots b a = record { half = a.half; labelled = a.labelled; pipeline = a.pipeline; roots = b; vertices = a.vertices }
+with_roots b a = record a { roots = b }
 
 -- an element for a slot, which is touched
 abbrev pub filled : ℕ → RootElement → Bound → Bound
-filled k e b = record { layout = b.layout; elements = update b.elements k e; immediates = b.immediates; touched = update b.touched k true }
+filled k e b = record b { elements = update b.elements k e; touched = update b.touched k true }
 
 -- elements for the slots from k on
 abbrev pub filled_from : ℕ → List RootElement → Bound → Bound
@@ -84,9 +92,14 @@ placed (Some i) e f = update f i e
 abbrev pub zeros : Constants
 zeros = constants 0 0 0
 
--- a layout becomes current: its special element is three zeros, its slots are touched, and touches of other slots are forgotten
+-- a layout becomes current: its special element is three zeros, its slots are touched, and no
+-- others are
 abbrev pub renewed : PipelineLayout → Bound → Bound
-renewed l b = record { layout = Some l; elements = placed (special_slot l) (SpecialConstants zeros) b.elements; immediates = b.immediates; touched = λ k. nat_lt k l.total_root_elements }
+renewed l b = record b {
+  layout = Some l;
+  elements = placed (special_slot l) (SpecialConstants zeros) b.elements;
+  touched = λ k. nat_lt k l.total_root_elements;
+}
 
 -- the current layout has the signature
 abbrev pub is_current : ℕ → Option PipelineLayout → Bool
@@ -106,7 +119,7 @@ abbrev pub overwritten : ℕ → List ℕ → (ℕ → ℕ) → ℕ → ℕ
 overwritten at ws f w = cond (among at (at + length ws) w) (slice_index ws (w - at)) (f w)
 
 abbrev pub with_immediates : (ℕ → ℕ) → Bound → Bound
-with_immediates f b = record { layout = b.layout; elements = b.elements; immediates = f; touched = b.touched }
+with_immediates f b = record b { immediates = f }
 
 -- the elements of a group: its table, if it has one, and its uniforms' addresses
 abbrev pub group_elements : Bool → ℕ → List ℕ → List RootElement
@@ -117,17 +130,17 @@ group_elements true table addresses = DescriptorTable table ∷ map DynamicUnifo
 
 -- the same words
 abbrev pub same_constants : Constants → Constants → Bool
-same_constants s t = bits32 s.first_vertex_or_x == bits32 t.first_vertex_or_x && (s.first_instance_or_y == t.first_instance_or_y && s.unused_or_z == t.unused_or_z)
+same_constants s t =
+    bits32 s.first_vertex_or_x == bits32 t.first_vertex_or_x
+    && (s.first_instance_or_y == t.first_instance_or_y && s.unused_or_z == t.unused_or_z)
 
 -- an element is these constants
 abbrev pub is_constants : Constants → RootElement → Bool
-is_constants s Empty = false
-is_constants s Immediates = false
 is_constants s (SpecialConstants t) = same_constants s t
-is_constants s (DescriptorTable a) = false
-is_constants s (DynamicUniformBuffer a) = false
+is_constants s _ = false
 
--- the special constants of the next draw at a slot, which is touched only if they differ from those before
+-- the special constants of the next draw at a slot, which is touched only if they differ from those
+-- there
 abbrev pub constants_at : Option ℕ → Constants → Bound → Bound
 constants_at None s b = b
 constants_at (Some i) s b = cond (is_constants s (b.elements i)) b (filled i (SpecialConstants s) b)
@@ -141,7 +154,7 @@ abbrev pub current_special : Option PipelineLayout → Option ℕ
 current_special None = None
 current_special (Some l) = special_slot l
 
--- the special slot of an own indirect signature, if there is one
+-- the special slot of a layout with its own command signature, if it has one
 abbrev pub own_slot_of : Option PipelineLayoutSpecialConstants → Option ℕ
 own_slot_of None = None
 own_slot_of (Some c) = cond c.own_signature (Some c.root_index) None
@@ -152,16 +165,13 @@ own_slot (Some l) = own_slot_of l.special_constants
 
 -- nothing is known of a slot any more
 abbrev pub emptied : Option ℕ → Bound → Bound
-emptied o b = record { layout = b.layout; elements = placed o Empty b.elements; immediates = b.immediates; touched = b.touched }
+emptied o b = record b { elements = placed o Empty b.elements }
 
 -- after a mark nothing is touched
 abbrev pub untouched : Bound → Bound
-untouched b = record { layout = b.layout; elements = b.elements; immediates = b.immediates; touched = λ k. false }
+untouched b = record b { touched = λ k. false }
 
 -- ---- vertex views
-
-abbrev pub with_vertices : Views → Account → Account
-with_vertices v a = record { half = a.half; labelled = a.labelled; pipeline = a.pipeline; roots = a.roots; vertices = v }
 
 -- a view for a slot, which is touched
 abbrev pub attached : ℕ → VertexView → Views → Views
@@ -169,7 +179,7 @@ attached i x v = record { views = update v.views i x; touched = update v.touched
 
 -- address and size for a slot, whose stride stays
 abbrev pub rebased : ℕ → ℕ → ℕ → Views → Views
-rebased i address size v = attached i (record { address = address; size = size; stride = (v.views i).stride }) v
+rebased i address size v = attached i (record (v.views i) { address = address; size = size }) v
 
 -- a stride that is given and unlike the view's
 abbrev pub restrides : Option ℕ → VertexView → Bool
@@ -183,7 +193,7 @@ stride_or (Some t) s = t
 -- a stride for each slot that a pipeline gives one
 abbrev pub strided : (ℕ → Option ℕ) → Views → Views
 strided f v = record {
-  views = λ i. record { address = (v.views i).address; size = (v.views i).size; stride = stride_or (f i) (v.views i).stride };
+  views = λ i. record (v.views i) { stride = stride_or (f i) (v.views i).stride };
   touched = λ i. restrides (f i) (v.views i) || v.touched i;
 }
 
@@ -196,7 +206,7 @@ abbrev pub strides_of : List (Option ℕ) → ℕ → Option ℕ
 strides_of ss i = cond (nat_lt i 16) (slice_index_or ss i None) None
 
 abbrev pub views_untouched : Views → Views
-views_untouched v = record { views = v.views; touched = λ i. false }
+views_untouched v = record v { touched = λ i. false }
 
 -- the slot of an element, if there is one, is below 64
 abbrev pub slot_below : Option (ℕ × RootElement) → Bool
@@ -207,22 +217,11 @@ slot_below (Some p) = nat_lt p.0 64
 
 -- an element is of its owner's kind; at the special slot any is
 abbrev pub is_of : Owner → RootElement → Bool
-is_of Special e = true
+is_of Special _ = true
 is_of Table (DescriptorTable a) = true
-is_of Table Empty = false
-is_of Table Immediates = false
-is_of Table (SpecialConstants s) = false
-is_of Table (DynamicUniformBuffer a) = false
 is_of Uniform (DynamicUniformBuffer a) = true
-is_of Uniform Empty = false
-is_of Uniform Immediates = false
-is_of Uniform (SpecialConstants s) = false
-is_of Uniform (DescriptorTable a) = false
 is_of ImmediatesOwner Immediates = true
-is_of ImmediatesOwner Empty = false
-is_of ImmediatesOwner (SpecialConstants s) = false
-is_of ImmediatesOwner (DescriptorTable a) = false
-is_of ImmediatesOwner (DynamicUniformBuffer a) = false
+is_of _ _ = false
 
 abbrev pub fits_owner : Option Owner → RootElement → Bool
 fits_owner None e = true

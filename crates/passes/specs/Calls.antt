@@ -36,9 +36,8 @@ pub data SetCall : Type 0 where
 
 -- base addresses with their offsets
 abbrev pub addresses : List ℕ → List ℕ → List ℕ
-addresses [] os = []
-addresses (b ∷ bs) [] = []
 addresses (b ∷ bs) (o ∷ os) = (b + o) ∷ addresses bs os
+addresses _ _ = []
 
 -- a group's slots are filled
 abbrev pub grouped : Option BindGroupInfo → ℕ → List ℕ → Bound → Bound
@@ -48,12 +47,14 @@ grouped (Some g) table xs b = filled_from g.base_root_index (group_elements g.ta
 -- the slots of a group with so many uniforms
 abbrev pub group_touches : Option BindGroupInfo → ℕ → List ℕ → ℕ → Bool
 group_touches None table xs k = false
-group_touches (Some g) table xs k = among g.base_root_index (g.base_root_index + length (group_elements g.table table xs)) k
+group_touches (Some g) table xs k =
+    among g.base_root_index (g.base_root_index + length (group_elements g.table table xs)) k
 
 -- words are written, and the immediates' slot is filled
 abbrev pub supplied : Option ImmediatesInfo → ℕ → List ℕ → Bound → Bound
 supplied None at ws b = b
-supplied (Some i) at ws b = filled i.root_index Immediates (with_immediates (overwritten at ws b.immediates) b)
+supplied (Some i) at ws b =
+    filled i.root_index Immediates (with_immediates (overwritten at ws b.immediates) b)
 
 abbrev pub immediates_touch : Option ImmediatesInfo → ℕ → Bool
 immediates_touch None k = false
@@ -64,63 +65,68 @@ set_roots (set_bind_group l i t bs os) b = switched l (grouped (group_in l i) t 
 set_roots (set_immediates l at ws) b = switched l (supplied l.immediates_info (at / 4) ws b)
 set_roots (set_render_pipeline p) b = switched p.layout b
 set_roots (set_compute_pipeline p) b = switched p.layout b
-set_roots (set_vertex_buffer i x) b = b
+set_roots _ b = b
 
 -- the stride that a pipeline gives a vertex slot, if it does
 abbrev pub stride_at : RenderPipeline → ℕ → Option ℕ
 stride_at p i = strides_of p.vertex_strides i
 
 abbrev pub set_vertices : SetCall → Views → Views
-set_vertices (set_bind_group l i t bs os) v = v
-set_vertices (set_immediates l at ws) v = v
 set_vertices (set_render_pipeline p) v = strided (stride_at p) v
-set_vertices (set_compute_pipeline p) v = v
 set_vertices (set_vertex_buffer i x) v = rebased i (address_of x) (size_of x) v
+set_vertices _ v = v
+
+abbrev pub pipeline : ℕ → ℕ → Pipeline
+pipeline h s = record { handle = h; signature = s }
 
 abbrev pub set_pipeline : SetCall → Option Pipeline → Option Pipeline
-set_pipeline (set_bind_group l i t bs os) o = o
-set_pipeline (set_immediates l at ws) o = o
-set_pipeline (set_render_pipeline p) o = Some (record { handle = p.handle; signature = p.layout.signature })
-set_pipeline (set_compute_pipeline p) o = Some (record { handle = p.handle; signature = p.layout.signature })
-set_pipeline (set_vertex_buffer i x) o = o
+set_pipeline (set_render_pipeline p) o = Some (pipeline p.handle p.layout.signature)
+set_pipeline (set_compute_pipeline p) o = Some (pipeline p.handle p.layout.signature)
+set_pipeline _ o = o
 
 -- the account behind a set call
 abbrev pub after_set : SetCall → Account → Account
-after_set c a = record { half = a.half; labelled = a.labelled; pipeline = set_pipeline c a.pipeline; roots = set_roots c a.roots; vertices = set_vertices c a.vertices }
+after_set c a = record a {
+  pipeline = set_pipeline c a.pipeline;
+  roots = set_roots c a.roots;
+  vertices = set_vertices c a.vertices;
+}
 
 -- the root slots that a set call touches
 abbrev pub set_touches : SetCall → Bound → ℕ → Bool
-set_touches (set_bind_group l i t bs os) b k = group_touches (group_in l i) t (addresses bs os) k || switch_touches l b k
-set_touches (set_immediates l at ws) b k = immediates_touch l.immediates_info k || switch_touches l b k
+set_touches (set_bind_group l i t bs os) b k =
+    group_touches (group_in l i) t (addresses bs os) k || switch_touches l b k
+set_touches (set_immediates l at ws) b k =
+    immediates_touch l.immediates_info k || switch_touches l b k
 set_touches (set_render_pipeline p) b k = switch_touches p.layout b k
 set_touches (set_compute_pipeline p) b k = switch_touches p.layout b k
-set_touches (set_vertex_buffer i x) b k = false
+set_touches _ b k = false
 
 -- the vertex slots that it touches
 abbrev pub set_touches_vertex : SetCall → Views → ℕ → Bool
-set_touches_vertex (set_bind_group l i t bs os) v k = false
-set_touches_vertex (set_immediates l at ws) v k = false
 set_touches_vertex (set_render_pipeline p) v k = restrides (stride_at p k) (v.views k)
-set_touches_vertex (set_compute_pipeline p) v k = false
 set_touches_vertex (set_vertex_buffer i x) v k = k == i
+set_touches_vertex _ v k = false
 
 -- the last root signature set in this pass is the pipeline's that was set last
 abbrev pub is_signed : ℕ → Option Pipeline → Bool
 is_signed s None = false
 is_signed s (Some p) = s == p.signature
 
--- the root signature comes first where the current layout's, or the last one set in this pass, is another
+-- the root signature is recorded first where the current layout's, or the last one set in this
+-- pass, is another
 abbrev pub signature_first : Half → ℕ → Option PipelineLayout → Option Pipeline → List Command
-signature_first h s l p = cond (is_current s l && is_signed s p) [] (SetRootSignature h s ∷ [])
+signature_first h s l p =
+    cond (is_current s l && is_signed s p) [] (SetRootSignature h s ∷ [])
 
 abbrev pub set_records : SetCall → Account → List Command
-set_records (set_bind_group l i t bs os) a = []
-set_records (set_immediates l at ws) a = []
 set_records (set_render_pipeline p) a =
-    signature_first a.half p.layout.signature a.roots.layout a.pipeline ++ (SetPipelineState p.handle ∷ IASetPrimitiveTopology p.topology ∷ [])
+    signature_first a.half p.layout.signature a.roots.layout a.pipeline
+    ++ (SetPipelineState p.handle ∷ IASetPrimitiveTopology p.topology ∷ [])
 set_records (set_compute_pipeline p) a =
-    signature_first a.half p.layout.signature a.roots.layout a.pipeline ++ (SetPipelineState p.handle ∷ [])
-set_records (set_vertex_buffer i x) a = []
+    signature_first a.half p.layout.signature a.roots.layout a.pipeline
+    ++ (SetPipelineState p.handle ∷ [])
+set_records _ a = []
 
 -- ---- drawing
 
@@ -136,55 +142,52 @@ pub data DrawCall : Type 0 where
 -- the constants of a direct call
 abbrev pub own_constants : DrawCall → Option Constants
 own_constants (draw first count instance instances) = Some (constants first instance 0)
-own_constants (draw_indirect buffer offset count) = None
 own_constants (dispatch x y z) = Some (constants x y z)
-own_constants (dispatch_indirect buffer offset) = None
+own_constants _ = None
 
--- an indirect call writes zeros, unless the layout's own indirect signature writes the constants
+-- an indirect call writes zeros, unless the layout's own command signature writes the constants
 abbrev pub constants_by : Option Constants → Option ℕ → Constants
 constants_by None own = zeros
 constants_by (Some s) own = s
 
--- whether a call is indirect with an own signature
+-- whether a call is indirect and the layout has its own command signature
 abbrev pub by_own : Option Constants → Option ℕ → Bool
-by_own (Some s) own = false
-by_own None None = false
 by_own None (Some i) = true
+by_own _ _ = false
 
 abbrev pub prepared_by : Option Constants → Bound → Bound
-prepared_by o b = cond (by_own o (own_slot b.layout)) b (constants_at (current_special b.layout) (constants_by o (own_slot b.layout)) b)
+prepared_by o b =
+    cond (by_own o (own_slot b.layout)) b
+    (constants_at (current_special b.layout) (constants_by o (own_slot b.layout)) b)
 
 -- the root slots as a draw wants them
 abbrev pub prepared : DrawCall → Bound → Bound
 prepared c b = prepared_by (own_constants c) b
 
 abbrev pub draw_touches_by : Option Constants → Bound → ℕ → Bool
-draw_touches_by o b k = cond (by_own o (own_slot b.layout)) false (constants_touch (current_special b.layout) (constants_by o (own_slot b.layout)) b k)
+draw_touches_by o b k =
+    cond (by_own o (own_slot b.layout)) false
+    (constants_touch (current_special b.layout) (constants_by o (own_slot b.layout)) b k)
 
 abbrev pub draw_touches : DrawCall → Bound → ℕ → Bool
 draw_touches c b k = draw_touches_by (own_constants c) b k
 
--- the slot that an indirect call with an own signature unsets
+-- the slot that an indirect call unsets by the layout's own command signature
 abbrev pub wiped_slot : Option Constants → Option PipelineLayout → Option ℕ
-wiped_slot (Some s) l = None
 wiped_slot None l = own_slot l
+wiped_slot _ l = None
 
--- the account behind a draw: nothing is touched, and nothing is known of what an indirect call wiped
+-- the account behind a draw: nothing is touched, and nothing is known of a slot that an indirect
+-- call wiped
 abbrev pub after_draw : DrawCall → Account → Account
-after_draw c a = record {
-  half = a.half;
-  labelled = a.labelled;
-  pipeline = a.pipeline;
+after_draw c a = record a {
   roots = untouched (emptied (wiped_slot (own_constants c) a.roots.layout) (prepared c a.roots));
   vertices = views_untouched a.vertices;
 }
 
 -- a mark alone, of a draw whose constants were put before it
 abbrev pub marked : Option Constants → Account → Account
-marked o a = record {
-  half = a.half;
-  labelled = a.labelled;
-  pipeline = a.pipeline;
+marked o a = record a {
   roots = untouched (emptied (wiped_slot o a.roots.layout) a.roots);
   vertices = views_untouched a.vertices;
 }
@@ -192,14 +195,17 @@ marked o a = record {
 -- the draw's own record
 abbrev pub own_command : DrawCall → Option PipelineLayout → Command
 own_command (draw first count instance instances) l = DrawInstanced count instances first instance
-own_command (draw_indirect buffer offset count) l = ExecuteIndirect Graphics (own_slot l) count buffer offset
+own_command (draw_indirect buffer offset count) l =
+    ExecuteIndirect Graphics (own_slot l) count buffer offset
 own_command (dispatch x y z) l = Dispatch x y z
-own_command (dispatch_indirect buffer offset) l = ExecuteIndirect Compute (own_slot l) 1 buffer offset
+own_command (dispatch_indirect buffer offset) l =
+    ExecuteIndirect Compute (own_slot l) 1 buffer offset
 
 abbrev pub draw_records : DrawCall → Account → List Command
-draw_records c a = flushed a.half (prepared c a.roots) a.vertices ++ (own_command c a.roots.layout ∷ [])
+draw_records c a =
+    flushed a.half (prepared c a.roots) a.vertices ++ (own_command c a.roots.layout ∷ [])
 
--- ---- questions
+-- ---- checks
 
 abbrev pub is_there : {X : Type 0} → Option X → Bool
 is_there None = false
@@ -218,9 +224,13 @@ abbrev pub uniforms_are : Option BindGroupInfo → ℕ → Bool
 uniforms_are None n = false
 uniforms_are (Some g) n = g.uniforms == n
 
--- the index of the first address that is not below 2 to the 64, counted from i on
+-- an address has 64 bits
+abbrev pub is_near : ℕ → Bool
+is_near x = nat_lt x (2 ^ 64)
+
+-- the index of the first address that is not below 2 ^ 64, counted from i on
 abbrev pub too_far : ℕ → List ℕ → Option ℕ
-too_far i xs = first_from i (λ x. nat_lt x (2 ^ 64)) xs
+too_far i xs = first_from i is_near xs
 
 -- ---- equal layouts
 
@@ -229,7 +239,7 @@ abbrev pub agrees : PipelineLayout → Option PipelineLayout → Bool
 agrees l None = true
 agrees l (Some c) = cond (l.signature == c.signature) (same_layout l c) true
 
--- ---- what set calls and draws ask, but for the space
+-- ---- what set calls and draws check, but for the space
 
 abbrev pub asks_layout : PipelineLayout → Option PipelineLayout → Option Why
 asks_layout l current = unless (agrees l current) (fault 6 0)
@@ -238,12 +248,16 @@ asks_layout l current = unless (agrees l current) (fault 6 0)
 abbrev pub words_fit : ℕ → ℕ → Bool
 words_fit at n = at % 4 == 0 && nat_le (at / 4 + n) 32
 
--- a binding lies within its buffer, below 2 to the 64, and its size is below 2 to the 32
+-- a binding's offset lies within its buffer (a size that is given may reach past the end), its
+-- address is below 2 ^ 64 and its size below 2 ^ 32
 abbrev pub binding_fits : BufferBinding → Bool
-binding_fits x = nat_lt (address_of x) (2 ^ 64) && (nat_le x.offset x.buffer.size && nat_lt (size_of x) (2 ^ 32))
+binding_fits x =
+    nat_lt (address_of x) (2 ^ 64)
+    && (nat_le x.offset x.buffer.size && nat_lt (size_of x) (2 ^ 32))
 
 abbrev pub asks_pipeline : ℕ → PipelineLayout → Option PipelineLayout → Option Why
-asks_pipeline handle l current = before (unless (is_handle handle) (fault 3 0)) (asks_layout l current)
+asks_pipeline handle l current =
+    before (unless (is_handle handle) (fault 3 0)) (asks_layout l current)
 
 abbrev pub asks_set : SetCall → Option PipelineLayout → Option Why
 asks_set (set_bind_group l i t bs os) current =
@@ -261,18 +275,23 @@ asks_set (set_compute_pipeline p) current = asks_pipeline p.handle p.layout curr
 asks_set (set_vertex_buffer i x) current =
     before (unless (nat_lt i 16) (fault 1 0)) (unless (binding_fits x) (fault 5 0))
 
--- a pipeline is set whose signature is current, 7; every slot but the special one has an element of its owner's kind, 8 with the lowest that has not
+-- 7: no pipeline of the current signature is set. 8, with the lowest such slot: some slot beside
+-- the special one has no element of its owner's kind
 abbrev pub drawable : Option Pipeline → Option PipelineLayout → (ℕ → RootElement) → Option Why
-drawable None l f = Some (fault 7 0)
-drawable (Some p) None f = Some (fault 7 0)
-drawable (Some p) (Some l) f = before (unless (p.signature == l.signature) (fault 7 0)) (fault_at 8 (unfit l f 0 l.total_root_elements))
+drawable (Some p) (Some l) f =
+    before (unless (p.signature == l.signature) (fault 7 0))
+    (fault_at 8 (unfit l f 0 l.total_root_elements))
+drawable _ _ f = Some (fault 7 0)
 
 -- the indirect buffer of a call, if it has one, is a handle
 abbrev pub buffer_there : DrawCall → Bool
-buffer_there (draw first count instance instances) = true
 buffer_there (draw_indirect buffer offset count) = is_handle buffer
-buffer_there (dispatch x y z) = true
 buffer_there (dispatch_indirect buffer offset) = is_handle buffer
+buffer_there _ = true
+
+-- what a draw checks of the account, whatever it draws
+abbrev pub asks_account : Account → Option Why
+asks_account a = drawable a.pipeline a.roots.layout a.roots.elements
 
 abbrev pub asks_draw : DrawCall → Account → Option Why
-asks_draw c a = before (unless (buffer_there c) (fault 3 0)) (drawable a.pipeline a.roots.layout a.roots.elements)
+asks_draw c a = before (unless (buffer_there c) (fault 3 0)) (asks_account a)

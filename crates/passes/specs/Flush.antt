@@ -34,7 +34,7 @@ abbrev pub words_used : Option PipelineLayout → ℕ
 words_used None = 0
 words_used (Some l) = size_of l.immediates_info
 
--- two words in a render pass, three in a compute pass, each without its sign
+-- a draw has its first two words, a dispatch all three; a signed word is written as the same 32 bits
 abbrev pub constant_words : Half → Constants → List ℕ
 constant_words Graphics s = bits32 s.first_vertex_or_x ∷ s.first_instance_or_y ∷ []
 constant_words Compute s = bits32 s.first_vertex_or_x ∷ s.first_instance_or_y ∷ s.unused_or_z ∷ []
@@ -66,7 +66,8 @@ vertex_commands v i = view_commands i (v.views i)
 
 -- vertex slots first, then root slots
 abbrev pub flushed : Half → Bound → Views → List Command
-flushed h b v = gathered v.touched (vertex_commands v) 0 16 ++ gathered b.touched (root_commands h b) 0 64
+flushed h b v =
+    gathered v.touched (vertex_commands v) 0 16 ++ gathered b.touched (root_commands h b) 0 64
 
 -- a slot of the device holds a value
 abbrev pub Holds : Value → Slot → Type 0

@@ -1,4 +1,5 @@
 pub mod Account
 pub mod Flush
 pub mod Calls
+pub mod Firsts
 pub mod State

@@ -32,7 +32,10 @@ no_buffer = record { address = 0; size = 0; stride = 0 }
 
 -- the vertex views: a slot past the last has zeros
 abbrev pub views_of : VertexState → Views
-views_of v = record { views = λ i. view_of (slice_index_or v.vertex_buffers i no_buffer); touched = bit v.dirty_vertex_buffers }
+views_of v = record {
+  views = λ i. view_of (slice_index_or v.vertex_buffers i no_buffer);
+  touched = bit v.dirty_vertex_buffers;
+}
 
 abbrev pub pipeline_of : PassPipeline → Pipeline
 pipeline_of p = record { handle = p.handle; signature = p.signature }
@@ -52,9 +55,10 @@ put_back (Some p) f = update f p.0 p.1
 
 -- what a draw's constants replaced is put back
 abbrev pub restored : Replaced → Bound → Bound
-restored r b = record { layout = b.layout; elements = put_back r.element b.elements; immediates = b.immediates; touched = bit r.dirty }
+restored r b = record b { elements = put_back r.element b.elements; touched = bit r.dirty }
 
--- what a set call makes of the record: it is refused by the first question that says no, and then nothing alters
+-- what a set call makes of the record: it is refused by the first check that fails, and then
+-- nothing alters
 abbrev pub Sets : SetCall → PassState → Result Unit Fault → PassState → Type 0
 Sets c p (Ok u) q = (asks_set c p.roots.layout ≡ None) × (account q ≡ after_set c (account p))
 Sets c p (Err f) q = (asks_set c p.roots.layout ≡ Some (why_of f)) × (q ≡ p)

@@ -16,17 +16,22 @@ use layouts::info::{BindGroupInfo, ImmediatesInfo};
 use layouts::layout::PipelineLayout;
 use layouts::mask::low;
 
+/// The number of root slots. wgpu-hal's constant of the same name.
 pub const MAX_ROOT_ELEMENTS: usize = 64;
 
+/// The number of words of immediates. wgpu-hal's constant of the same name.
 pub const MAX_IMMEDIATES: usize = 32;
 
-// The layout whose slots draws use, an element for each slot, the immediates' words, and the slots touched since the
-// last mark.
+/// The root slots of a pass, and which of them are dirty: touched since the last mark.
 #[derive(Clone, Copy)]
 pub struct RootState {
+    /// The current layout, whose slots draws use. None before the first call that brings one.
     pub layout: Option<PipelineLayout>,
+    /// An element for each slot.
     pub root_elements: [RootElement; MAX_ROOT_ELEMENTS],
+    /// The words of immediates. They stay when another layout becomes current.
     pub immediates: [u32; MAX_IMMEDIATES],
+    /// The dirty slots, slot k by the bit of value 2^k.
     pub dirty_root_elements: u64,
 }
 
@@ -51,7 +56,8 @@ impl RootState {
         self.dirty_root_elements |= 1 << slot;
     }
 
-    // A layout becomes current: its special element is three zeros, and its slots are touched, and no others.
+    // Makes a layout current: its special element is three zeros, its slots are touched, and no
+    // others are.
     pub(crate) fn reset_signature(&mut self, layout: &PipelineLayout)
         ensures { bound_of self.new ≡ renewed layout.now (bound_of self.old) }
     {
@@ -64,7 +70,7 @@ impl RootState {
         self.dirty_root_elements = low(u64::from(layout.total()));
     }
 
-    // The switch to a layout with another signature than the current one's.
+    // Makes a layout current if it has another signature than the current one.
     pub(crate) fn switch_to(&mut self, layout: &PipelineLayout)
         ensures { bound_of self.new ≡ switched layout.now (bound_of self.old) }
     {
@@ -82,7 +88,7 @@ impl RootState {
             .is_some_and(|layout| signature == layout.signature())
     }
 
-    // A layout with the current signature has to be the current one.
+    // Refuses a layout, 6, that has the current one's signature and is not equal to it.
     pub(crate) fn check_layout(&self, layout: &PipelineLayout) -> Result<(), Fault>
         ensures { fault_of result ≡ asks_layout layout.now self.now.layout }
     {
@@ -101,7 +107,9 @@ impl RootState {
         requires same { length bases.now ≡ length offsets.now }
         requires near { too_far 0 (addresses bases.now offsets.now) ≡ None }
         requires within { (k : ℕ) → first ≤ k → k < first + length bases.now → k < 64 }
-        ensures { bound_of self.new ≡ filled_from first (map DynamicUniformBuffer (addresses bases.now offsets.now)) (bound_of self.old) }
+        ensures { bound_of self.new ≡
+            filled_from first (map DynamicUniformBuffer (addresses bases.now offsets.now))
+            (bound_of self.old) }
     {
         let mut slot = first;
         for (base, offset) in bases.iter().zip(offsets.iter()) {
@@ -123,8 +131,12 @@ impl RootState {
     )
         requires same { length bases.now ≡ length offsets.now }
         requires near { too_far 0 (addresses bases.now offsets.now) ≡ None }
-        requires within { (k : ℕ) → info.base_root_index ≤ k → k < first_uniform info + length bases.now → k < 64 }
-        ensures { bound_of self.new ≡ filled_from info.base_root_index (group_elements info.table table (addresses bases.now offsets.now)) (bound_of self.old) }
+        requires within { (k : ℕ) → info.base_root_index ≤ k →
+            k < first_uniform info + length bases.now → k < 64 }
+        ensures { bound_of self.new ≡
+            filled_from info.base_root_index
+            (group_elements info.table table (addresses bases.now offsets.now))
+            (bound_of self.old) }
     {
         let first = info.base_root_index;
         if info.table {
@@ -145,10 +157,11 @@ impl RootState {
         self.fill(info.root_index, RootElement::Immediates);
     }
 
-    // The special constants of the next draw, which touch their slot only if they differ from those before. What they
-    // replaced is handed back, so that a refused draw leaves no trace.
+    // Puts the special constants of the next draw, and touches their slot only if they differ from
+    // those there. Hands back what they replaced, so that a refused draw leaves no trace.
     fn set_constants(&mut self, constants: SpecialConstants) -> Replaced
-        ensures set { bound_of self.new ≡ constants_at (current_special self.old.layout) constants (bound_of self.old) }
+        ensures set { bound_of self.new ≡
+            constants_at (current_special self.old.layout) constants (bound_of self.old) }
         ensures was { restored result (bound_of self.new) ≡ bound_of self.old }
     {
         let dirty = self.dirty_root_elements;
@@ -175,7 +188,7 @@ impl RootState {
         Some(self.layout.as_ref()?.special()?.root_index)
     }
 
-    // The special slot of an own indirect signature of the current layout.
+    // The special slot of the current layout, if that has its own command signature.
     pub(crate) fn own_slot(&self) -> Option<u8>
         ensures { result ≡ own_slot self.now.layout }
     {
@@ -200,9 +213,12 @@ impl RootState {
         }
     }
 
-    // Every slot of a layout but the special one has an element of its owner's kind. Refused: the lowest that has not.
+    // Refuses a layout, 8, some slot of which, beside the special one, has no element of its
+    // owner's kind: with the lowest such slot.
     pub(crate) fn check_elements(&self, layout: &PipelineLayout) -> Result<(), Fault>
-        ensures { fault_of result ≡ fault_at 8 (unfit layout.now (bound_of self.now).elements 0 layout.now.total_root_elements) }
+        ensures { fault_of result ≡
+            fault_at 8
+            (unfit layout.now (bound_of self.now).elements 0 layout.now.total_root_elements) }
     {
         for slot in 0..layout.total() {
             if !self.root_elements[slot as usize].fits(layout.owner(slot)) {
@@ -212,7 +228,7 @@ impl RootState {
         Ok(())
     }
 
-    // The root slots as a draw wants them, of constants of its own or with none.
+    // Puts the special constants that a draw wants: its own, or an indirect call's zeros.
     pub(crate) fn prepare(&mut self, own: Option<SpecialConstants>) -> Replaced
         ensures set { bound_of self.new ≡ prepared_by own (bound_of self.old) }
         ensures was { restored result (bound_of self.new) ≡ bound_of self.old }
@@ -226,7 +242,7 @@ impl RootState {
         self.set_constants(own.unwrap_or(SpecialConstants::from_dispatch(0, 0, 0)))
     }
 
-    // What a draw's constants replaced is put back.
+    // Puts back what a draw's constants replaced.
     pub(crate) fn restore(&mut self, was: Replaced)
         ensures { bound_of self.new ≡ restored was (bound_of self.old) }
     {
@@ -236,9 +252,10 @@ impl RootState {
         self.dirty_root_elements = was.dirty;
     }
 
-    // Nothing is touched any more, and nothing is known of what an indirect call with an own signature wiped.
+    // A mark: no slot is dirty, and nothing is known of a slot that an indirect call wiped.
     pub(crate) fn mark(&mut self, own: Option<SpecialConstants>)
-        ensures { bound_of self.new ≡ untouched (emptied (wiped_slot own self.old.layout) (bound_of self.old)) }
+        ensures { bound_of self.new ≡
+            untouched (emptied (wiped_slot own self.old.layout) (bound_of self.old)) }
     {
         if own.is_none() {
             self.forget(self.own_slot());
@@ -257,9 +274,11 @@ impl RootState {
             .map_or(0, |info| info.size)
     }
 
-    // These words.
+    /// The words of immediates that the current layout uses, from the first on; none without a
+    /// layout.
     pub fn used_immediates(&self) -> &[u32]
-        ensures words { result.now ≡ firsts (bound_of self.now).immediates 0 (words_used self.now.layout) }
+        ensures words { result.now ≡
+            firsts (bound_of self.now).immediates 0 (words_used self.now.layout) }
         ensures few { length result.now ≤ 32 }
     {
         &self.immediates[..self.words_used() as usize]

@@ -3,19 +3,26 @@ ghost use Rattle.std.specs.Prelude.{◌≡◌, ◌<◌};
 ghost use Rattle.passes.specs.Account.{no_views, rebased, strided, only_at, strides_of, views_untouched};
 ghost use Rattle.passes.specs.State.{views_of};
 
+/// The number of vertex slots. wgpu-hal's constant of the same name.
 pub const MAX_VERTEX_BUFFERS: usize = 16;
 
+/// A vertex buffer view (Microsoft: `D3D12_VERTEX_BUFFER_VIEW`).
 #[derive(Clone, Copy)]
 pub struct VertexBufferView {
+    /// The GPU address of the first vertex.
     pub address: u64,
+    /// How many bytes there are from it on.
     pub size: u32,
+    /// The bytes from one vertex to the next.
     pub stride: u32,
 }
 
-// A view for each vertex slot, and the slots touched since the last mark.
+/// A view for each vertex slot, and which of them are dirty: touched since the last mark.
 #[derive(Clone, Copy)]
 pub struct VertexState {
+    /// The views, zeros at the opening of a pass.
     pub vertex_buffers: [VertexBufferView; MAX_VERTEX_BUFFERS],
+    /// The dirty slots, slot i by the bit of value 2^i.
     pub dirty_vertex_buffers: u16,
 }
 

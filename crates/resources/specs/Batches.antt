@@ -11,28 +11,38 @@ use Rattle.command_list.specs.Refusals.{fault_of}
 -- barriers go into one record; none make none
 abbrev pub transition_records : List Barrier → List Command
 transition_records [] = []
-transition_records (e ∷ es) = ResourceBarrier (e ∷ es) ∷ []
+transition_records es = ResourceBarrier es ∷ []
 
--- a scratch of so many entries, filled so far, takes these barriers: at most 2048 entries, and a place for each barrier that is made
+-- a scratch of this length and fill takes these barriers: it has at most 2048 entries, and a free
+-- one for each barrier that is made
 abbrev pub Takes : ℕ → ℕ → List Barrier → Type 0
 Takes len fill es = (len ≤ 2048) × (0 < length es → fill + length es ≤ len)
 
--- the barriers es were put from the fill on, or did not all find a place
+-- the barriers es were put from the fill on, or there were too few free entries for them
 abbrev pub Put : ℕ → List Barrier → List Barrier → Result Unit Fault → ℕ → List Barrier → Type 0
 Put fill entries es (Ok u) fill' entries' =
-    (fill' ≡ fill + length es) × (0 < length es → fill' ≤ length entries) × (take (fill' - fill) (drop fill entries') ≡ es)
-Put fill entries es (Err f) fill' entries' = IsFault f 9 0 × (0 < length es) × (length entries < fill + length es)
+    (fill' ≡ fill + length es) × (0 < length es → fill' ≤ length entries)
+    × (take (fill' - fill) (drop fill entries') ≡ es)
+Put fill entries es (Err f) fill' entries' =
+    IsFault f 9 0 × (0 < length es) × (length entries < fill + length es)
 
--- what becomes of the barriers es: all recorded at once, in a space that has room for them; or refused, 9 where the scratch does not take them, 10 where the space does not, and nothing recorded
+-- what becomes of the barriers es: all recorded at once, in a space that has room for them; or
+-- refused, 9 where the scratch does not take them, 10 where the space does not, and nothing
+-- recorded
 abbrev pub Batched : Meaning → ℕ → ℕ → List Barrier → Result Unit Fault → Meaning → Type 0
-Batched m len fill es (Ok u) n = Takes len fill es × (sizes (transition_records es) ≤ m.space) × Recorded m (transition_records es) n
+Batched m len fill es (Ok u) n =
+    Takes len fill es × (sizes (transition_records es) ≤ m.space)
+    × Recorded m (transition_records es) n
 Batched m len fill es (Err f) n =
-    (n ≡ m) × ((IsFault f 9 0 × (Takes len fill es → ⊥)) ⊎ (IsFault f 10 0 × Takes len fill es × (m.space < sizes (transition_records es))))
+    (n ≡ m)
+    × ((IsFault f 9 0 × (Takes len fill es → ⊥))
+    ⊎ (IsFault f 10 0 × Takes len fill es × (m.space < sizes (transition_records es))))
 
--- the same behind the questions that are asked of the changes first
+-- the same behind the checks of the changes
 abbrev pub Transitioned : Meaning → ℕ → ℕ → List Change → Result Unit Fault → Meaning → Type 0
 Transitioned m len fill cs r n =
-    ((verdict cs ≡ None) × Batched m len fill (barriers_of cs) r n) ⊎ (((verdict cs ≡ None) → ⊥) × (fault_of r ≡ verdict cs) × (n ≡ m))
+    ((verdict cs ≡ None) × Batched m len fill (barriers_of cs) r n)
+    ⊎ (((verdict cs ≡ None) → ⊥) × (fault_of r ≡ verdict cs) × (n ≡ m))
 
 -- the host's part of a scratch: the fill, how many entries there are, and those below the fill
 pub record Kept (fill fill' : ℕ) (entries entries' : List Barrier) : Type 0 where

@@ -1,5 +1,6 @@
 -- Direct3D's states of a resource, and which of them each usage flag brings.
-use Rattle.std.specs.Prelude.{ℕ, ◌+◌, ◌/◌, ◌%◌, ◌^◌, Bool, cond, List, [], ◌∷◌, ◌==◌, bit_or}
+use Rattle.std.specs.Prelude.{ℕ, ◌+◌, cond, List, [], ◌∷◌, bit_or}
+use Rattle.command_list.specs.Bits.{bit}
 
 -- D3D12_RESOURCE_STATES, under Microsoft's names in small letters
 abbrev pub common : ℕ
@@ -42,17 +43,9 @@ copy_source = 0x800
 abbrev pub all_shader_resource : ℕ
 all_shader_resource = bit_or non_pixel_shader_resource pixel_shader_resource
 
--- the binary digit of a number at a place, 0 or 1
-abbrev pub digit : ℕ → ℕ → ℕ
-digit n k = n / 2 ^ k % 2
-
--- a usage has the flag of value 2 ^ k
-abbrev pub has : ℕ → ℕ → Bool
-has u k = digit u k == 1
-
 -- what the flag of value 2 ^ k brings, in a usage that has it
 abbrev pub flag_state : ℕ → ℕ → ℕ → ℕ
-flag_state u k s = cond (has u k) s common
+flag_state u k s = cond (bit u k) s common
 
 -- a state with what the flags of a usage bring, from the flag of value 2 ^ k on: their bitwise or
 abbrev pub united : ℕ → ℕ → ℕ → List ℕ → ℕ
@@ -67,7 +60,7 @@ buffer_flags u =
     -- INDEX, VERTEX, UNIFORM
     index_buffer ∷ vertex_and_constant_buffer ∷ vertex_and_constant_buffer ∷
     -- STORAGE_READ_ONLY, which brings nothing beside STORAGE_READ_WRITE
-    cond (has u 6) common all_shader_resource ∷ unordered_access ∷
+    cond (bit u 6) common all_shader_resource ∷ unordered_access ∷
     -- INDIRECT, ACCELERATION_STRUCTURE_QUERY
     indirect_argument ∷ unordered_access ∷ []
 

@@ -1,4 +1,4 @@
-// Changes of usage, asked about, put into the scratch as barriers and recorded at once.
+// Changes of usage, checked, put into the scratch as barriers and recorded at once.
 ghost use Rattle.std.specs.Prelude.{◌≡◌, ◌≤◌, Bool, not, length, take};
 ghost use Rattle.command_list.specs.Seen.{number_of};
 ghost use Rattle.resources.specs.declared.barrier.ResourceBarrier.{ResourceBarrier};
@@ -19,7 +19,10 @@ const MOST_ENTRIES: usize = 2048;
 // All subresources of a resource.
 const ALL_SUBRESOURCES: u32 = 0xFFFF_FFFF;
 
-// The barrier that a change of usage makes, if any.
+/// The barrier that a change of usage makes, if any. Unlike states make a transition of all
+/// subresources; equal states make a UAV barrier where the usage before is one whose accesses need
+/// it; else there is none. (Microsoft: `D3D12_RESOURCE_TRANSITION_BARRIER`,
+/// `D3D12_RESOURCE_UAV_BARRIER`.)
 pub fn barrier<U: Uses>(item: &ResourceBarrier<U>) -> Option<Barrier>
     ensures { result ≡ barrier_of (change_of U.Uses.usage item.now) }
 {
@@ -50,14 +53,18 @@ fn in_range<U: Uses>(item: &ResourceBarrier<U>) -> bool
     item.usage.from.is_known() && item.usage.to.is_known()
 }
 
-// Changes are refused by a number, at the first one that a test is true of.
+// Refuses the first change that a test fails, by a number and with its index.
 fn check_first<U: Uses, F: FnMut(&ResourceBarrier<U>) -> bool>(
     list: &[ResourceBarrier<U>],
     number: Number,
     fails: F,
 ) -> Result<(), Fault>
     requires { (state : F) (item : _) → F.pre state item }
-    ensures { (good : Change → Bool) → ((item : _) (failed : Bool) (after : F) → F.step fails item failed after → (after ≡ fails) × (failed ≡ not (good (change_of U.Uses.usage item.now)))) → fault_of result ≡ fault_at (number_of number) (first_from 0 good (changes_of U.Uses.usage list.now)) }
+    ensures { (good : Change → Bool) →
+        ((item : _) (failed : Bool) (after : F) → F.step fails item failed after →
+        (after ≡ fails) × (failed ≡ not (good (change_of U.Uses.usage item.now)))) →
+        fault_of result ≡
+        fault_at (number_of number) (first_from 0 good (changes_of U.Uses.usage list.now)) }
 {
     match list.iter().position(fails) {
         Some(place) => Err(number.at(place)),
@@ -65,7 +72,9 @@ fn check_first<U: Uses, F: FnMut(&ResourceBarrier<U>) -> bool>(
     }
 }
 
-// What is asked of changes before anything is made of them.
+/// What a transition checks of its changes: every usage has known flags only, else 1 with the index
+/// of the first change that has others; then every resource is above 0, else 3 with the index of
+/// the first that is 0.
 pub fn check<U: Uses>(list: &[ResourceBarrier<U>]) -> Result<(), Fault>
     ensures answer { fault_of result ≡ verdict (changes_of U.Uses.usage list.now) }
     ensures decided { Decided (changes_of U.Uses.usage list.now) result }
@@ -80,8 +89,11 @@ fn fill<U: Uses>(guard: &mut Restore<'_>, list: &[ResourceBarrier<U>]) -> Result
     ensures same_mark { guard.new.mark.ghost_name ≡ guard.old.mark.ghost_name }
     ensures was { guard.new.was ≡ guard.old.was }
     ensures long { length guard.new.entries.now ≡ length guard.old.entries.now }
-    ensures below { take guard.old.mark.now.fill guard.new.entries.now ≡ take guard.old.mark.now.fill guard.old.entries.now }
-    ensures put { Put guard.old.mark.now.fill guard.old.entries.now (barriers_of (changes_of U.Uses.usage list.now)) result guard.new.mark.now.fill guard.new.entries.now }
+    ensures below { take guard.old.mark.now.fill guard.new.entries.now ≡
+        take guard.old.mark.now.fill guard.old.entries.now }
+    ensures put { Put guard.old.mark.now.fill guard.old.entries.now
+        (barriers_of (changes_of U.Uses.usage list.now)) result
+        guard.new.mark.now.fill guard.new.entries.now }
 {
     for item in list {
         if let Some(made) = barrier(item) {
@@ -91,8 +103,7 @@ fn fill<U: Uses>(guard: &mut Restore<'_>, list: &[ResourceBarrier<U>]) -> Result
     Ok(())
 }
 
-// The barriers of some changes in the entries from the fill on, recorded at once. The fill is as before on every way out.
-// The recorder and the list are lent for one call, so no struct holds both. Apart from `batch`, since the check takes no `&mut` that is passed on through the scratch's own to the guard.
+// The barriers of some changes in the entries from the fill on, recorded at once.
 fn batch_in<U: Uses, R: Recorder>(
     recorder: &mut R,
     entries: &mut [Barrier],
@@ -100,7 +111,8 @@ fn batch_in<U: Uses, R: Recorder>(
     list: &[ResourceBarrier<U>],
 ) -> Result<(), Fault>
     ensures kept { Kept mark.old.fill mark.new.fill entries.old entries.new }
-    ensures batched { Batched (R.meaning recorder.old) (length entries.old) mark.old.fill (barriers_of (changes_of U.Uses.usage list.now)) result (R.meaning recorder.new) }
+    ensures batched { Batched (R.meaning recorder.old) (length entries.old) mark.old.fill
+        (barriers_of (changes_of U.Uses.usage list.now)) result (R.meaning recorder.new) }
 {
     if entries.len() > MOST_ENTRIES {
         return Err(Number::Scratch.at(0));
@@ -114,30 +126,39 @@ fn batch_in<U: Uses, R: Recorder>(
     recorder.resource_barrier(made)
 }
 
-// The barriers of some changes, put into a scratch and recorded at once. Refused: a scratch that does not take them, 9;
-// a space that does not, 10. The host's part of the scratch is as before in every case.
+/// The barriers of some changes, put into the scratch from its fill on and recorded as one
+/// ResourceBarrier; nothing is recorded where no change makes one. Refused: a scratch of more than
+/// 2048 entries or with too few free ones, 9; a space that does not take the record, 10. The
+/// changes themselves are not checked here.
 pub fn batch<U: Uses, R: Recorder>(
     recorder: &mut R,
     scratch: &mut Scratch,
     list: &[ResourceBarrier<U>],
 ) -> Result<(), Fault>
     ensures lent { scratch.new.entries.ghost_name ≡ scratch.old.entries.ghost_name }
-    ensures kept { Kept scratch.old.mark.fill scratch.new.mark.fill scratch.old.entries.now scratch.new.entries.now }
-    ensures batched { Batched (R.meaning recorder.old) (length scratch.old.entries.now) scratch.old.mark.fill (barriers_of (changes_of U.Uses.usage list.now)) result (R.meaning recorder.new) }
+    ensures kept { Kept scratch.old.mark.fill scratch.new.mark.fill
+        scratch.old.entries.now scratch.new.entries.now }
+    ensures batched { Batched (R.meaning recorder.old)
+        (length scratch.old.entries.now) scratch.old.mark.fill
+        (barriers_of (changes_of U.Uses.usage list.now)) result (R.meaning recorder.new) }
 {
     let Scratch { entries, mark } = scratch;
     batch_in(recorder, entries, mark, list)
 }
 
-// A whole call: the questions, then the barriers.
+/// A whole transition call: [`check`], then [`batch`]. wgpu-hal's `transition_buffers` and
+/// `transition_textures`. Refused by 1, 3, 9 or 10, in this order.
 pub fn transition<U: Uses, R: Recorder>(
     recorder: &mut R,
     scratch: &mut Scratch,
     list: &[ResourceBarrier<U>],
 ) -> Result<(), Fault>
     ensures lent { scratch.new.entries.ghost_name ≡ scratch.old.entries.ghost_name }
-    ensures kept { Kept scratch.old.mark.fill scratch.new.mark.fill scratch.old.entries.now scratch.new.entries.now }
-    ensures transitioned { Transitioned (R.meaning recorder.old) (length scratch.old.entries.now) scratch.old.mark.fill (changes_of U.Uses.usage list.now) result (R.meaning recorder.new) }
+    ensures kept { Kept scratch.old.mark.fill scratch.new.mark.fill
+        scratch.old.entries.now scratch.new.entries.now }
+    ensures transitioned { Transitioned (R.meaning recorder.old)
+        (length scratch.old.entries.now) scratch.old.mark.fill
+        (changes_of U.Uses.usage list.now) result (R.meaning recorder.new) }
 {
     check(list)?;
     batch(recorder, scratch, list)

@@ -1,11 +1,12 @@
-// Usages turned into Direct3D's states.
+// Usages as Direct3D states.
 ghost use Rattle.std.specs.Prelude.{◌≡◌, if◌then◌else◌, bit_and, bit_or, nat_eq, fold};
-ghost use Rattle.resources.specs.States.{has, common, all_shader_resource};
+ghost use Rattle.command_list.specs.Bits.{bit};
+ghost use Rattle.resources.specs.States.{common, all_shader_resource};
 ghost use Rattle.resources.specs.Usages.{Stated, buffer, texture};
 
 use crate::uses::{BufferUses, TextureUses};
 
-// D3D12_RESOURCE_STATES.
+// Values of D3D12_RESOURCE_STATES, by Microsoft's names.
 const COMMON: u32 = 0x0;
 
 const VERTEX_AND_CONSTANT_BUFFER: u32 = 0x1;
@@ -35,9 +36,10 @@ fn brings(bits: u32, flag: u32, state: u32) -> u32
     if bits & flag == 0 { COMMON } else { state }
 }
 
-// The state that all flags of a usage bring, of the flags with what each of them brings.
+// What all flags of a usage bring, given each flag beside what it brings.
 fn brought(bits: u32, flags: &[(u32, u32)]) -> u32
-    ensures { result ≡ fold (λ s p. bit_or s (if nat_eq (bit_and bits p.0) 0 then 0 else p.1)) 0 flags.now }
+    ensures { result ≡
+        fold (λ s p. bit_or s (if nat_eq (bit_and bits p.0) 0 then 0 else p.1)) 0 flags.now }
 {
     flags.iter().fold(
         COMMON,
@@ -45,9 +47,9 @@ fn brought(bits: u32, flags: &[(u32, u32)]) -> u32
     )
 }
 
-// Storage that is only read is a shader's resource, unless it is written too.
+// Read-only storage is a shader resource, unless the usage writes storage too.
 fn reads_storage(bits: u32) -> u32
-    ensures { result ≡ (if has bits 6 then common else all_shader_resource) }
+    ensures { result ≡ (if bit bits 6 then common else all_shader_resource) }
 {
     if bits & BufferUses::STORAGE_READ_WRITE != 0 {
         COMMON
@@ -56,7 +58,8 @@ fn reads_storage(bits: u32) -> u32
     }
 }
 
-// The state of a buffer that is used so.
+/// The Direct3D state of a buffer's usage: the bitwise or of what its flags bring. wgpu-hal's
+/// function of the same name. Bits that are no known flag bring nothing.
 pub fn map_buffer_usage_to_state(usage: BufferUses) -> u32
     ensures { Stated (buffer usage.bits) result }
 {
@@ -74,7 +77,8 @@ pub fn map_buffer_usage_to_state(usage: BufferUses) -> u32
     brought(usage.bits, &flags)
 }
 
-// The state of a texture that is used so.
+/// The Direct3D state of a texture's usage: the bitwise or of what its flags bring. wgpu-hal's
+/// function of the same name. Bits that are no known flag bring nothing.
 pub fn map_texture_usage_to_state(usage: TextureUses) -> u32
     ensures { Stated (texture usage.bits) result }
 {
