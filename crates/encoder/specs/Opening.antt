@@ -3,15 +3,14 @@ use Rattle.std.specs.Prelude.{ℕ, ◌+◌, ◌/◌, ◌%◌, ◌^◌, Bool, tru
 use Rattle.command_list.specs.declared.command.Half.{Half}
 use Rattle.command_list.specs.declared.command.Half.TheVariants.{Graphics, Compute}
 use Rattle.command_list.specs.Commands.{Command, BeginEvent, EndEvent, SetDescriptorHeaps, OMSetRenderTargets, ClearRenderTargetView, RSSetViewports, RSSetScissorRects}
-use Rattle.std.specs.Str.{chars}
-use Rattle.labels.specs.Unicode.{utf8s}
+use Rattle.labels.specs.Utf8.{is_utf8}
 use Rattle.labels.specs.Labels.{label_units}
 use Rattle.resources.specs.Barriers.{Change, barriers_of, in_range, present}
 use Rattle.resources.specs.Batches.{transition_records}
 use Rattle.bindings.specs.Extents.{single}
 use Rattle.passes.specs.Calls.{is_handle}
 use Rattle.encoder.specs.declared.attachment.ColorAttachment.{ColorAttachment}
-use Rattle.command_list.specs.Refusals.{first_from, fault, unless, before, fault_at}
+use Rattle.command_list.specs.Refusals.{Why, first_from, fault, unless, before, fault_at}
 
 -- the opening of a pass: a label's bytes, if it has one; for a render pass its extent and its attachments, of which some may be left out
 pub data Opening : Type 0 where
@@ -63,21 +62,6 @@ abbrev pub ending_records : Bool → List Command
 ending_records labelled = SetDescriptorHeaps false ∷ cond labelled (EndEvent ∷ []) []
 
 -- ---- what an opening asks
-
--- the same numbers in the same order
-abbrev pub same_numbers : List ℕ → List ℕ → Bool
-same_numbers [] [] = true
-same_numbers [] (y ∷ ys) = false
-same_numbers (x ∷ xs) [] = false
-same_numbers (x ∷ xs) (y ∷ ys) = x == y && same_numbers xs ys
-
-abbrev pub are_scalars : List ℕ → Bool
-are_scalars [] = true
-are_scalars (c ∷ cs) = (nat_lt c 0xD800 || (nat_le 0xE000 c && nat_lt c 0x110000)) && are_scalars cs
-
--- bytes are UTF-8: they decode to scalar values whose UTF-8 they are
-abbrev pub is_utf8 : List ℕ → Bool
-is_utf8 bs = are_scalars (chars bs) && same_numbers (utf8s (chars bs)) bs
 
 abbrev pub label_short : Option (List ℕ) → Bool
 label_short None = true

@@ -16,6 +16,7 @@ use Rattle.passes.specs.declared.element.RootElement.{RootElement}
 use Rattle.passes.specs.Account.{Account, Pipeline, is_current, fits_owner, unfit}
 use Rattle.passes.specs.Calls.{set_bind_group, set_immediates, set_render_pipeline, set_compute_pipeline, set_vertex_buffer, DrawCall, addresses, is_there, is_handle, table_there, uniforms_are, too_far, agrees, asks_layout, words_fit, binding_fits, asks_set, drawable, buffer_there, asks_draw}
 use Rattle.command_list.specs.Refusals.{unless, before, fault_at, fault}
+use Rattle.command_list.proofs.Refusing.{some≢none, before_none, unless_none, fault_none}
 
 -- ---- equal layouts
 

@@ -1,5 +1,5 @@
 -- The barrier rule by cases, and the first item that fails a question.
-use Rattle.std.proofs.Common.{◌≡◌, ℕ, zero, suc, ◌+◌, ◌<◌, Bool, true, false, cond, not, List, [], ◌∷◌, length, get_or, Some, None, Ok, Err, Option, Result, sym, refl, ap, ◌∙◌, subst, inl, inr, ⊎_elim, arith}
+use Rattle.std.proofs.Common.{◌≡◌, ℕ, ◌+◌, Bool, true, false, cond, not, List, [], ◌∷◌, Some, None, Ok, Err, Option, Result, sym, refl, ap, ◌∙◌, subst, inl, inr, ⊎_elim, arith}
 use Rattle.std.proofs.lemmas.Bool.{cond-true, cond-false, cases_Bool}
 use Rattle.std.specs.List.{position, position_from}
 use Rattle.std.proofs.lemmas.Iterator.Adapters.{position_from-zero}
@@ -9,7 +9,8 @@ use Rattle.resources.specs.declared.barrier.ResourceBarrier.{ResourceBarrier}
 use Rattle.resources.specs.Usages.{Usage}
 use Rattle.resources.specs.Barriers.{Change, in_range, present, verdict, Decided}
 use Rattle.resources.specs.Listed.{change_of, changes_of}
-use Rattle.command_list.specs.Refusals.{first_from, Why, fault_at, before, fault_of, AllPass, First}
+use Rattle.command_list.specs.Refusals.{first_from, Why, fault, why_of, fault_at, before, fault_of, AllPass, First}
+use Rattle.command_list.proofs.Refusing.{first_none, first_at}
 
 -- the first item that fails a question, in the library's words
 first_from_position : {U : Type 0} (usage : U → Usage) (good : Change → Bool) (i : ℕ) (bs : List (ResourceBarrier U)) → position_from (λ b. not (good (change_of usage b))) i bs ≡ first_from i good (changes_of usage bs)

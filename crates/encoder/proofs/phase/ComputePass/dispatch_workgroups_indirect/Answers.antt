@@ -1,6 +1,7 @@
 use Rattle.std.proofs.Common.{sym, refl, ap, arith}
 use Rattle.std.proofs.lemmas.Bool.{lt-ltb, le-ltb}
 use Rattle.command_list.specs.declared.command.Half.TheVariants.{Compute}
+use Rattle.command_list.specs.declared.fault.Number.TheVariants as number
 use Rattle.command_list.specs.Commands.{ExecuteIndirect}
 use Rattle.passes.specs.Calls.{dispatch_indirect}
 use Rattle.encoder.specs.Scenes.{pass_draws}
@@ -12,7 +13,7 @@ pub returns-then-buffer-eq0 : goal.returns-then-buffer-eq0
 returns-then-buffer-eq0 g c =
     let a = c.args in
     let call = dispatch_indirect a.buffer a.offset in
-    draw_absent call _ _ _ (ap (λ h. pass_draws h call) (computes _ a.self.now.computes)) (le-ltb 0 a.buffer (omega arith)) _ (fault_is _ 3 0 c.at.ensures)
+    draw_absent call _ _ _ (ap (λ h. pass_draws h call) (computes _ a.self.now.computes)) (le-ltb 0 a.buffer (omega arith)) _ (fault_is _ number.Absent 0 c.at.ensures)
 
 pub returns : goal.returns
 returns g c =

@@ -1,4 +1,5 @@
 use Rattle.std.proofs.Common.{◌≡◌, false, true, Some, ap, ◌∙◌, sym, arith}
+use Rattle.command_list.specs.declared.fault.Number.TheVariants as number
 use Rattle.layouts.specs.Layouts.{owner_in}
 use Rattle.passes.specs.Account.{fits_owner}
 use Rattle.passes.specs.State.{bound_of}
@@ -13,7 +14,7 @@ returns-then-not-fits c =
     let f = (bound_of c.args.self.now).elements in
     let k = c.loop-slot.slot in
     let no' : fits_owner (owner_in l k) (f k) ≡ false = sym (ap (λ o. fits_owner o (f k)) c.owner.ensures) ∙ sym c.fits.ensures ∙ c.if-not-fits.true in
-    ap Some (fault_is c.at.result 8 k c.at.ensures)
+    ap Some (fault_is c.at.result number.Unfit k c.at.ensures)
     ∙ sym (ap (fault_at 8) (c.loop-slot.invariant ∙ unfit_here l f k l.total_root_elements (omega arith) no'))
 
 pub loop-slot-preserved : goal.loop-slot-preserved
