@@ -38,10 +38,12 @@ pub record Whole (l : PipelineLayout) : Type 0 where
   pub few : l.total_root_elements ≤ 64
   pub one : (k : ℕ) → k < l.total_root_elements → length (owners_in l k) ≡ 1
   pub none : (k : ℕ) → l.total_root_elements ≤ k → owners_in l k ≡ []
-  pub special : (c : PipelineLayoutSpecialConstants) → l.special_constants ≡ Some c → Owns l Special c.root_index
+  pub special : (c : PipelineLayoutSpecialConstants) → l.special_constants ≡ Some c
+      → Owns l Special c.root_index
   pub immediates : (i : ImmediatesInfo) → l.immediates_info ≡ Some i
       → Owns l Immediates i.root_index × ((1 ≤ i.size) × (i.size ≤ 32))
-  pub table : (j : ℕ) (g : BindGroupInfo) → group_in l j ≡ Some g → g.table ≡ true → Owns l Table g.base_root_index
+  pub table : (j : ℕ) (g : BindGroupInfo) → group_in l j ≡ Some g
+      → g.table ≡ true → Owns l Table g.base_root_index
   pub uniforms : (j : ℕ) (g : BindGroupInfo) → group_in l j ≡ Some g
       → (k : ℕ) → first_uniform g ≤ k → k < behind g → Owns l Uniform k
 

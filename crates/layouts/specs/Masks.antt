@@ -12,5 +12,6 @@ Masks kind owners_at m = (k : ℕ) → bit m k ≡ (nat_lt k 64 && held kind (ow
 -- for each kind that a group's mask is of, the mask of all groups is of this kind
 abbrev pub Gathered : (BindGroupInfo → ℕ → Type 0) → List (Option BindGroupInfo) → ℕ → Type 0
 Gathered one groups m =
-    (kind : Owner → Bool) → ((g : BindGroupInfo) (n : ℕ) → one g n → Masks kind (λ k. of_group k (Some g)) n)
+    (kind : Owner → Bool)
+    → ((g : BindGroupInfo) (n : ℕ) → one g n → Masks kind (λ k. of_group k (Some g)) n)
     → Masks kind (λ k. of_groups k groups) m

@@ -29,7 +29,8 @@ when false o = []
 abbrev pub of_group : ℕ → Option BindGroupInfo → List Owner
 of_group k None = []
 of_group k (Some g) =
-    when (among g.base_root_index (first_uniform g) k) Table ++ when (among (first_uniform g) (behind g) k) Uniform
+    when (among g.base_root_index (first_uniform g) k) Table
+    ++ when (among (first_uniform g) (behind g) k) Uniform
 
 abbrev pub of_groups : ℕ → List (Option BindGroupInfo) → List Owner
 of_groups k gs = flat_map (of_group k) gs
@@ -45,18 +46,19 @@ immediates_at None k = false
 immediates_at (Some i) k = i.root_index == k
 
 -- all owners of the slot k
-abbrev pub owners : Option PipelineLayoutSpecialConstants → Option ImmediatesInfo → List (Option BindGroupInfo)
-    → ℕ → List Owner
+abbrev pub owners : Option PipelineLayoutSpecialConstants → Option ImmediatesInfo
+    → List (Option BindGroupInfo) → ℕ → List Owner
 owners special immediates groups k =
-    when (special_at special k) Special ++ (when (immediates_at immediates k) Immediates ++ of_groups k groups)
+    when (special_at special k) Special
+    ++ (when (immediates_at immediates k) Immediates ++ of_groups k groups)
 
 abbrev pub first : List Owner → Option Owner
 first [] = None
 first (o ∷ os) = Some o
 
 -- the owner of the slot k, if it has one
-abbrev pub owner_of : Option PipelineLayoutSpecialConstants → Option ImmediatesInfo → List (Option BindGroupInfo)
-    → ℕ → Option Owner
+abbrev pub owner_of : Option PipelineLayoutSpecialConstants → Option ImmediatesInfo
+    → List (Option BindGroupInfo) → ℕ → Option Owner
 owner_of special immediates groups k = first (owners special immediates groups k)
 
 abbrev pub is_table : Owner → Bool
@@ -93,13 +95,16 @@ special_within total (Some c) = nat_lt c.root_index total
 -- immediates have a slot below the total, and are 1 to 32 words
 abbrev pub immediates_within : ℕ → Option ImmediatesInfo → Bool
 immediates_within total None = true
-immediates_within total (Some i) = nat_lt i.root_index total && (nat_le 1 i.size && nat_le i.size 32)
+immediates_within total (Some i) =
+    nat_lt i.root_index total && (nat_le 1 i.size && nat_le i.size 32)
 
--- there are at most 64 slots, every slot that has an owner is one of them, and immediates have a size
-abbrev pub fits : ℕ → Option PipelineLayoutSpecialConstants → Option ImmediatesInfo → List (Option BindGroupInfo) → Bool
+-- there are at most 64 slots, each slot with an owner is one of them, and immediates have a size
+abbrev pub fits : ℕ → Option PipelineLayoutSpecialConstants → Option ImmediatesInfo
+    → List (Option BindGroupInfo) → Bool
 fits total special immediates groups =
     nat_le total 64
-    && (special_within total special && (immediates_within total immediates && groups_within total groups))
+    && (special_within total special
+    && (immediates_within total immediates && groups_within total groups))
 
 -- each slot below n has one owner, and not two
 unfoldable pub once_below : (ℕ → List Owner) → ℕ → Bool

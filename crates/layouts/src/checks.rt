@@ -1,4 +1,4 @@
-// The parts that own a layout's slots, what making a layout asks of them, and the masks of its slots.
+// The parts that own a layout's slots, what a new layout asks of them, and the masks of its slots.
 ghost use Rattle.std.specs.Prelude.{◌≡◌, ◌≤◌, length};
 ghost use Rattle.layouts.specs.Owners.{first_uniform, behind, of_group, of_groups, owners, group_within, groups_within, fits as fitting, once_below, is_table, is_uniform};
 ghost use Rattle.layouts.specs.Masks.{Masks, Gathered};
@@ -52,7 +52,7 @@ pub(crate) struct RootParts {
 }
 
 impl RootParts {
-    // Whether there are at most 64 slots, every owned slot is one of them, and immediates have a size.
+    // Whether there are at most 64 slots, each owned one below the total, and immediates fit.
     pub(crate) fn fits(&self, total: u32) -> bool
         ensures { result ≡ fitting total self.now.special self.now.immediates self.now.groups }
     {
@@ -82,7 +82,8 @@ impl RootParts {
 
     // How many owners the slot has.
     fn count(&self, slot: u32) -> u32
-        ensures { result ≡ length (owners self.now.special self.now.immediates self.now.groups slot) }
+        ensures { result
+            ≡ length (owners self.now.special self.now.immediates self.now.groups slot) }
     {
         u32::from(self.special.is_some_and(|c| c.root_index == slot))
             + u32::from(self.immediates.is_some_and(|i| i.root_index == slot))
@@ -91,7 +92,8 @@ impl RootParts {
 
     // Whether each slot below the total has one owner.
     pub(crate) fn once(&self, total: u32) -> bool
-        ensures { result ≡ once_below (owners self.now.special self.now.immediates self.now.groups) total }
+        ensures { result
+            ≡ once_below (owners self.now.special self.now.immediates self.now.groups) total }
     {
         (0..total).all(|slot| self.count(slot) == 1)
     }

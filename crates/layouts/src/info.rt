@@ -24,13 +24,13 @@ pub struct ImmediatesInfo {
     pub size: u32,
 }
 
-/// The slot of the special constants, which tell a shader the first vertex and the first instance of
-/// a draw, or the counts of a dispatch.
+/// The slot of the special constants, which tell a shader the first vertex and the first instance
+/// of a draw, or the counts of a dispatch.
 #[derive(Clone, Copy, PartialEq, Eq)]
 pub struct PipelineLayoutSpecialConstants {
     pub root_index: u32,
-    /// Whether indirect calls take a command signature of the layout's own, which writes the special
-    /// constants: `indirect_cmd_signatures` in the Rust.
+    /// Whether indirect calls take a command signature of the layout's own, which writes the
+    /// special constants: `indirect_cmd_signatures` in the Rust.
     pub own_signature: bool,
 }
 

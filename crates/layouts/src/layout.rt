@@ -22,7 +22,8 @@ pub struct PipelineLayout {
     bind_group_infos: [Option<BindGroupInfo>; MAX_BIND_GROUPS],
     tables: u64,
     uniforms: u64,
-    ghost ok: { sound signature total_root_elements special_constants immediates_info bind_group_infos ≡ true },
+    ghost ok: { sound signature total_root_elements
+        special_constants immediates_info bind_group_infos ≡ true },
     ghost table_slots: { (k : ℕ) → bit tables k
         ≡ owned is_table (owner_of special_constants immediates_info bind_group_infos k) },
     ghost uniform_slots: { (k : ℕ) → bit uniforms k
