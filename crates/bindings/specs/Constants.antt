@@ -17,4 +17,5 @@ words_of s = bits32 s.first_vertex_or_x ∷ s.first_instance_or_y ∷ s.unused_o
 
 -- the constants whose words are these
 abbrev pub constants : ℕ → ℕ → ℕ → SpecialConstants
-constants x y z = record { first_vertex_or_x = signed32 x; first_instance_or_y = y; unused_or_z = z }
+constants x y z =
+    record { first_vertex_or_x = signed32 x; first_instance_or_y = y; unused_or_z = z }

@@ -1,4 +1,5 @@
-// What calls of the encoder turn their operands into: bindings, ends of rectangles, viewports, special constants.
+//! What the encoder's calls make of their operands: addresses and sizes of bindings, the four ends
+//! of scissor rectangles, the viewport over a whole target, and special constants.
 #![tactic(auto)]
 
 pub mod binding;

@@ -1,11 +1,12 @@
-// Scissor rectangles: a corner with a width and a height, turned into four ends.
+//! Scissor rectangles: a corner with a width and a height, turned into four ends.
 ghost use Rattle.std.specs.Prelude.{◌≡◌, ◌+◌, ◌^◌, ◌<◌, ◌≤◌, MatchResult};
-ghost use Rattle.bindings.specs.declared.rect.Bounds.{Bounds};
 ghost use Rattle.command_list.specs.Seen.{IsFault};
-ghost use Rattle.bindings.specs.Rects.{Ends};
+ghost use Rattle.bindings.specs.Rects.{ends_of, Ends};
 
 use command_list::fault::{Fault, Number};
 
+/// A rectangle as a host gives it, `Rect<u32>` in the Rust: its upper left corner, its width and
+/// its height, in texels.
 #[derive(Clone, Copy)]
 pub struct Rect {
     pub x: u32,
@@ -14,7 +15,7 @@ pub struct Rect {
     pub h: u32,
 }
 
-// The ends of a rectangle.
+/// The ends of a rectangle, as `D3D12_RECT` has them. Direct3D reads each as a signed number.
 #[derive(Clone, Copy)]
 pub struct Bounds {
     pub left: u32,
@@ -26,9 +27,11 @@ pub struct Bounds {
 // Past the last end.
 const END: u32 = 0x8000_0000;
 
-// One end, which is a signed number.
+// One end, which has to be a signed number.
 fn end(start: u32, width: u32) -> Result<u32, Fault>
-    ensures { MatchResult result (λ n. (n ≡ start + width) × (n < 2 ^ 31)) (λ f. IsFault f 5 0 × (2 ^ 31 ≤ start + width)) }
+    ensures { MatchResult result
+        (λ n. (n ≡ start + width) × (n < 2 ^ 31))
+        (λ f. IsFault f 5 0 × (2 ^ 31 ≤ start + width)) }
 {
     start
         .checked_add(width)
@@ -37,9 +40,11 @@ fn end(start: u32, width: u32) -> Result<u32, Fault>
 }
 
 impl Rect {
-    // The four ends. Refused: a right or lower end that is no signed number of 32 bits, 5.
+    /// The four ends. Refused with 5: a right or lower end that is no signed number of 32 bits.
     pub fn bounds(&self) -> Result<Bounds, Fault>
-        ensures { MatchResult result (λ b. (b ≡ record { left = self.now.x; top = self.now.y; right = self.now.x + self.now.w; bottom = self.now.y + self.now.h }) × Ends self.now) (λ f. IsFault f 5 0 × (Ends self.now → ⊥)) }
+        ensures { MatchResult result
+            (λ b. (b ≡ ends_of self.now) × Ends self.now)
+            (λ f. IsFault f 5 0 × (Ends self.now → ⊥)) }
     {
         let right = end(self.x, self.w)?;
         let bottom = end(self.y, self.h)?;

@@ -43,6 +43,5 @@ formed_test bs w =
 pub test_formed : (bs : List ℕ) → is_utf8 bs ≡ true → WellFormed bs
 test_formed bs e = let p = and_parts _ _ e in (chars bs, (test_scalars (chars bs) p.0, same_is (utf8s (chars bs)) bs p.1))
 
-
 pub utf8_is_unicodes : Utf8IsUnicodes
 utf8_is_unicodes bs = (test_formed bs, formed_test bs)

@@ -14,7 +14,8 @@ Scalars (c ∷ cs) = Scalar c × Scalars cs
 abbrev pub trailing : ℕ → ℕ
 trailing bits = 0x80 + bits % 0x40
 
--- UTF-8 (table 3-6): 0xxxxxxx, 110yyyyy 10xxxxxx, 1110zzzz 10yyyyyy 10xxxxxx or 11110uuu 10zzzzzz 10yyyyyy 10xxxxxx, by the size of the scalar value
+-- UTF-8 (table 3-6): 0xxxxxxx, 110yyyyy 10xxxxxx, 1110zzzz 10yyyyyy 10xxxxxx
+-- or 11110uuu 10zzzzzz 10yyyyyy 10xxxxxx, by the size of the scalar value
 abbrev pub utf8 : ℕ → List ℕ
 utf8 c =
     cond (nat_lt c 0x80) (c ∷ [])
@@ -27,9 +28,11 @@ abbrev pub utf8s : List ℕ → List ℕ
 utf8s [] = []
 utf8s (c ∷ cs) = utf8 c ++ utf8s cs
 
--- UTF-16 (table 3-5): one unit below 10000, else a surrogate pair, each with ten bits of what is above
+-- UTF-16 (table 3-5): one unit below 10000, else a surrogate pair with ten bits of the rest in each
 abbrev pub utf16 : ℕ → List ℕ
-utf16 c = cond (nat_lt c 0x10000) (c ∷ []) ((0xD800 + (c - 0x10000) / 0x400) ∷ (0xDC00 + (c - 0x10000) % 0x400) ∷ [])
+utf16 c =
+    cond (nat_lt c 0x10000) (c ∷ [])
+    ((0xD800 + (c - 0x10000) / 0x400) ∷ (0xDC00 + (c - 0x10000) % 0x400) ∷ [])
 
 -- the units of scalar values, one behind the other
 abbrev pub utf16s : List ℕ → List ℕ
@@ -54,14 +57,15 @@ Tail b = From 0x80 0xBF b
 
 -- the well-formed bytes of one scalar value, row by row of table 3-7
 abbrev pub Row : List ℕ → Type 0
-Row [] = ⊥
 Row (a ∷ []) = From 0x00 0x7F a
 Row (a ∷ b ∷ []) = From 0xC2 0xDF a × Tail b
 Row (a ∷ b ∷ c ∷ []) =
-    (((a ≡ 0xE0) × From 0xA0 0xBF b) ⊎ ((From 0xE1 0xEC a × Tail b) ⊎ (((a ≡ 0xED) × From 0x80 0x9F b) ⊎ (From 0xEE 0xEF a × Tail b)))) × Tail c
+    (((a ≡ 0xE0) × From 0xA0 0xBF b) ⊎ ((From 0xE1 0xEC a × Tail b)
+    ⊎ (((a ≡ 0xED) × From 0x80 0x9F b) ⊎ (From 0xEE 0xEF a × Tail b)))) × Tail c
 Row (a ∷ b ∷ c ∷ d ∷ []) =
-    (((a ≡ 0xF0) × From 0x90 0xBF b) ⊎ ((From 0xF1 0xF3 a × Tail b) ⊎ ((a ≡ 0xF4) × From 0x80 0x8F b))) × Tail c × Tail d
-Row (a ∷ b ∷ c ∷ d ∷ e ∷ es) = ⊥
+    (((a ≡ 0xF0) × From 0x90 0xBF b) ⊎ ((From 0xF1 0xF3 a × Tail b)
+    ⊎ ((a ≡ 0xF4) × From 0x80 0x8F b))) × Tail c × Tail d
+Row _ = ⊥
 
 -- bytes that are rows of the table, one behind the other
 pub data Tabled : List ℕ → Type 0 where

@@ -1,4 +1,4 @@
-// A label's units, made from the bytes of a text.
+//! A label's units, made from the bytes of a text.
 ghost use Rattle.std.specs.Prelude.{◌≡◌, ◌+◌, ◌≤◌, length, take, MatchResult};
 ghost use Rattle.std.specs.Str.{chars};
 ghost use Rattle.labels.specs.Unicode.{utf16s};
@@ -13,7 +13,7 @@ const MOST_BYTES: usize = 256;
 // The most units of a label: at most one for each byte, and the final 0.
 const MOST_UNITS: usize = 257;
 
-// The units of a label with their final 0. An array with its length in use, since a label takes no heap.
+/// The UTF-16 units of a label with their final 0, 257 at most. A label takes no heap.
 #[derive(Drop)]
 pub struct Label {
     units: [u16; MOST_UNITS],
@@ -23,7 +23,6 @@ pub struct Label {
 }
 
 // Puts the units of a text at the front, and says how many they are.
-// The count is kept by hand, since it is the answer: `enumerate` would give an index, and the count would stand beside it.
 fn fill(text: &str, units: &mut [u16; MOST_UNITS]) -> usize
     requires { length text.now ≤ 256 }
     ensures count { result ≤ length text.now }
@@ -39,9 +38,14 @@ fn fill(text: &str, units: &mut [u16; MOST_UNITS]) -> usize
 }
 
 impl Label {
-    // The label that these bytes make. Refused: more than 256 bytes, 1; not UTF-8, 2.
+    /// The label that these bytes make, which are UTF-8 with no final 0. No byte at all makes the
+    /// label of one unit, 0.
+    ///
+    /// Refused: more than 256 bytes with 1; else bytes that are no well-formed UTF-8 with 2.
     pub fn new(bytes: &[u8]) -> Result<Label, Fault>
-        ensures { MatchResult result (λ l. Labelled bytes.now (take l.len l.units)) (λ f. Refused bytes.now f) }
+        ensures { MatchResult result
+            (λ l. Labelled bytes.now (take l.len l.units))
+            (λ f. Refused bytes.now f) }
     {
         if bytes.len() > MOST_BYTES {
             return Err(Number::Range.at(0));
@@ -53,7 +57,7 @@ impl Label {
         Ok(Label { units, len: n + 1 })
     }
 
-    // The units, as an event is recorded with them.
+    /// The units, as an event is recorded with them.
     pub fn units(&self) -> &[u16]
         ensures { (result.now ≡ take self.now.len self.now.units) × Recordable result.now }
     {

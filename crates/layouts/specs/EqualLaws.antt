@@ -4,10 +4,13 @@ use Rattle.std.specs.Cmp.Lexicographic.{lists_equiv, options_equiv}
 use Rattle.layouts.specs.Equal.{same_special, same_immediates, same_group, same_layout}
 
 special_equiv : IsEquivalence same_special
-special_equiv = and_equiv (on_equiv (λ c. c.root_index) nat_eq_equiv) (on_equiv (λ c. c.own_signature) bool_eq_equiv)
+special_equiv =
+    and_equiv (on_equiv (λ c. c.root_index) nat_eq_equiv)
+    (on_equiv (λ c. c.own_signature) bool_eq_equiv)
 
 immediates_equiv : IsEquivalence same_immediates
-immediates_equiv = and_equiv (on_equiv (λ i. i.root_index) nat_eq_equiv) (on_equiv (λ i. i.size) nat_eq_equiv)
+immediates_equiv =
+    and_equiv (on_equiv (λ i. i.root_index) nat_eq_equiv) (on_equiv (λ i. i.size) nat_eq_equiv)
 
 group_equiv : IsEquivalence same_group
 group_equiv =

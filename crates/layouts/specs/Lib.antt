@@ -1,5 +1,6 @@
 pub mod Equal
 pub mod EqualLaws
 pub mod Layouts
+pub mod Masks
 pub mod Names
 pub mod Owners

@@ -1,12 +1,12 @@
 -- Who owns a root slot of a layout, and which layouts there are.
-use Rattle.std.specs.Prelude.{ℕ, zero, suc, ◌+◌, Bool, true, false, cond, not, ◌&&◌, ◌||◌, List, [], ◌∷◌, ◌++◌, map, length, Some, None, Option, ◌==◌, nat_le, nat_lt}
-use Rattle.std.specs.List.{range_with_len, flat_map}
+use Rattle.std.specs.Prelude.{ℕ, zero, suc, ◌+◌, Bool, true, false, cond, not, ◌&&◌, ◌||◌, List, [], ◌∷◌, ◌++◌, length, Some, None, Option, ◌==◌, nat_le, nat_lt}
+use Rattle.std.specs.List.{flat_map}
 use Rattle.layouts.specs.declared.info.BindGroupInfo.{BindGroupInfo}
-use Rattle.layouts.specs.declared.info.GroupEntry.{GroupEntry}
 use Rattle.layouts.specs.declared.info.ImmediatesInfo.{ImmediatesInfo}
 use Rattle.layouts.specs.declared.info.PipelineLayoutSpecialConstants.{PipelineLayoutSpecialConstants}
 use Rattle.layouts.specs.declared.info.Owner.{Owner}
 use Rattle.layouts.specs.declared.info.Owner.TheVariants.{Table, Uniform, Immediates, Special}
+use Rattle.command_list.specs.Refusals.{Why, fault, unless, before}
 
 -- the slot behind the group's table slot, where its uniforms begin
 abbrev pub first_uniform : BindGroupInfo → ℕ
@@ -28,7 +28,9 @@ when false o = []
 -- the owners of the slot k in a group: its table, then its uniforms
 abbrev pub of_group : ℕ → Option BindGroupInfo → List Owner
 of_group k None = []
-of_group k (Some g) = when (among g.base_root_index (first_uniform g) k) Table ++ when (among (first_uniform g) (behind g) k) Uniform
+of_group k (Some g) =
+    when (among g.base_root_index (first_uniform g) k) Table
+    ++ when (among (first_uniform g) (behind g) k) Uniform
 
 abbrev pub of_groups : ℕ → List (Option BindGroupInfo) → List Owner
 of_groups k gs = flat_map (of_group k) gs
@@ -44,28 +46,28 @@ immediates_at None k = false
 immediates_at (Some i) k = i.root_index == k
 
 -- all owners of the slot k
-abbrev pub owners : Option PipelineLayoutSpecialConstants → Option ImmediatesInfo → List (Option BindGroupInfo) → ℕ → List Owner
-owners special immediates groups k = when (special_at special k) Special ++ (when (immediates_at immediates k) Immediates ++ of_groups k groups)
+abbrev pub owners : Option PipelineLayoutSpecialConstants → Option ImmediatesInfo
+    → List (Option BindGroupInfo) → ℕ → List Owner
+owners special immediates groups k =
+    when (special_at special k) Special
+    ++ (when (immediates_at immediates k) Immediates ++ of_groups k groups)
 
 abbrev pub first : List Owner → Option Owner
 first [] = None
 first (o ∷ os) = Some o
 
 -- the owner of the slot k, if it has one
-abbrev pub owner_of : Option PipelineLayoutSpecialConstants → Option ImmediatesInfo → List (Option BindGroupInfo) → ℕ → Option Owner
+abbrev pub owner_of : Option PipelineLayoutSpecialConstants → Option ImmediatesInfo
+    → List (Option BindGroupInfo) → ℕ → Option Owner
 owner_of special immediates groups k = first (owners special immediates groups k)
 
 abbrev pub is_table : Owner → Bool
 is_table Table = true
-is_table Uniform = false
-is_table Immediates = false
-is_table Special = false
+is_table _ = false
 
 abbrev pub is_uniform : Owner → Bool
-is_uniform Table = false
 is_uniform Uniform = true
-is_uniform Immediates = false
-is_uniform Special = false
+is_uniform _ = false
 
 -- whether there is an owner, of the kind that is asked for
 abbrev pub owned : (Owner → Bool) → Option Owner → Bool
@@ -93,11 +95,16 @@ special_within total (Some c) = nat_lt c.root_index total
 -- immediates have a slot below the total, and are 1 to 32 words
 abbrev pub immediates_within : ℕ → Option ImmediatesInfo → Bool
 immediates_within total None = true
-immediates_within total (Some i) = nat_lt i.root_index total && (nat_le 1 i.size && nat_le i.size 32)
+immediates_within total (Some i) =
+    nat_lt i.root_index total && (nat_le 1 i.size && nat_le i.size 32)
 
--- there are at most 64 slots, every slot that has an owner is one of them, and immediates have a size
-abbrev pub fits : ℕ → Option PipelineLayoutSpecialConstants → Option ImmediatesInfo → List (Option BindGroupInfo) → Bool
-fits total special immediates groups = nat_le total 64 && (special_within total special && (immediates_within total immediates && groups_within total groups))
+-- there are at most 64 slots, each slot with an owner is one of them, and immediates have a size
+abbrev pub fits : ℕ → Option PipelineLayoutSpecialConstants → Option ImmediatesInfo
+    → List (Option BindGroupInfo) → Bool
+fits total special immediates groups =
+    nat_le total 64
+    && (special_within total special
+    && (immediates_within total immediates && groups_within total groups))
 
 -- each slot below n has one owner, and not two
 unfoldable pub once_below : (ℕ → List Owner) → ℕ → Bool
@@ -105,32 +112,16 @@ once_below f zero = true
 once_below f (suc n) = length (f n) == 1 && once_below f n
 
 -- what is so of every layout
-abbrev pub sound : ℕ → ℕ → Option PipelineLayoutSpecialConstants → Option ImmediatesInfo → List (Option BindGroupInfo) → Bool
+abbrev pub sound : ℕ → ℕ → Option PipelineLayoutSpecialConstants → Option ImmediatesInfo
+    → List (Option BindGroupInfo) → Bool
 sound signature total special immediates groups =
-    not (signature == 0) && (fits total special immediates groups && once_below (owners special immediates groups) total)
+    not (signature == 0)
+    && (fits total special immediates groups && once_below (owners special immediates groups) total)
 
--- every index is below 8
-abbrev pub indexed : List GroupEntry → Bool
-indexed [] = true
-indexed (e ∷ es) = nat_lt e.index 8 && indexed es
-
--- what stands later, if anything does
-abbrev pub later : Option BindGroupInfo → Option BindGroupInfo → Option BindGroupInfo
-later (Some g) o = Some g
-later None o = o
-
--- the group of the last entry with the index k, if there is one
-abbrev pub latest : List GroupEntry → ℕ → Option BindGroupInfo
-latest [] k = None
-latest (e ∷ es) k = later (latest es k) (cond (e.index == k) (Some e.info) None)
-
--- the groups at the 8 indices
-abbrev pub placed : List GroupEntry → List (Option BindGroupInfo)
-placed es = map (latest es) (range_with_len 0 8)
-
--- the number with which a layout of these parts is refused, if it is
-abbrev pub verdict : ℕ → ℕ → Option PipelineLayoutSpecialConstants → Option ImmediatesInfo → List GroupEntry → Option ℕ
-verdict signature total special immediates entries =
-    cond (signature == 0 || not (indexed entries)) (Some 1)
-    (cond (not (fits total special immediates (placed entries))) (Some 11)
-    (cond (not (once_below (owners special immediates (placed entries)) total)) (Some 12) None))
+-- why a layout of these parts is refused, if it is
+abbrev pub verdict : ℕ → ℕ → Option PipelineLayoutSpecialConstants → Option ImmediatesInfo
+    → List (Option BindGroupInfo) → Option Why
+verdict signature total special immediates groups =
+    before (unless (not (signature == 0)) (fault 1 0))
+    (before (unless (fits total special immediates groups) (fault 11 0))
+    (unless (once_below (owners special immediates groups) total) (fault 12 0)))

@@ -1,16 +1,10 @@
-// The parts that own a layout's slots, what making a layout asks of them, and the masks of its slots.
-ghost use Rattle.std.specs.Prelude.{◌≡◌, ℕ, ◌≤◌, Bool, true, false, ◌&&◌, length, Some, MatchResult, nat_lt};
-ghost use Rattle.command_list.specs.Seen.{IsFault};
-ghost use Rattle.command_list.specs.Bits.{bit};
-ghost use Rattle.layouts.specs.declared.info.Owner.{Owner};
-ghost use Rattle.layouts.specs.declared.info.BindGroupInfo.{BindGroupInfo};
-ghost use Rattle.layouts.specs.Owners.{first_uniform, behind, of_group, of_groups, owners, group_within, groups_within, fits as fitting, once_below, indexed, placed, is_table, is_uniform, held};
+// The parts that own a layout's slots, what a new layout asks of them, and the masks of its slots.
+ghost use Rattle.std.specs.Prelude.{◌≡◌, ◌≤◌, length};
+ghost use Rattle.layouts.specs.Owners.{first_uniform, behind, of_group, of_groups, owners, group_within, groups_within, fits as fitting, once_below, is_table, is_uniform};
+ghost use Rattle.layouts.specs.Masks.{Masks, Gathered};
 
-use crate::info::{
-    BindGroupInfo, GroupEntry, ImmediatesInfo, MAX_BIND_GROUPS, PipelineLayoutSpecialConstants,
-};
+use crate::info::{BindGroupInfo, ImmediatesInfo, MAX_BIND_GROUPS, PipelineLayoutSpecialConstants};
 use crate::mask::span;
-use command_list::fault::{Fault, Number};
 
 // The slot behind the group's table slot, where its uniforms begin.
 fn first_uniform(info: BindGroupInfo) -> u64
@@ -24,23 +18,6 @@ fn behind_last(info: BindGroupInfo) -> u64
     ensures { result ≡ behind info }
 {
     first_uniform(info) + u64::from(info.uniforms)
-}
-
-// The groups at their indices. Of two entries with one index the later stands. A test and an index, since with
-// `get_mut` the check did not know the array behind the write.
-pub(crate) fn place(
-    groups: &[GroupEntry],
-) -> Result<[Option<BindGroupInfo>; MAX_BIND_GROUPS], Fault>
-    ensures { MatchResult result (λ gs. (indexed groups.now ≡ true) × (gs ≡ placed groups.now)) (λ f. (indexed groups.now ≡ false) × IsFault f 1 0) }
-{
-    let mut infos = [None; MAX_BIND_GROUPS];
-    for entry in groups {
-        if entry.index as usize >= MAX_BIND_GROUPS {
-            return Err(Number::Range.at(0));
-        }
-        infos[entry.index as usize] = Some(entry.info);
-    }
-    Ok(infos)
 }
 
 // Whether the slots of a group are below the total.
@@ -75,7 +52,7 @@ pub(crate) struct RootParts {
 }
 
 impl RootParts {
-    // Whether there are at most 64 slots, every owned slot is one of them, and immediates have a size.
+    // Whether there are at most 64 slots, each owned one below the total, and immediates fit.
     pub(crate) fn fits(&self, total: u32) -> bool
         ensures { result ≡ fitting total self.now.special self.now.immediates self.now.groups }
     {
@@ -105,7 +82,8 @@ impl RootParts {
 
     // How many owners the slot has.
     fn count(&self, slot: u32) -> u32
-        ensures { result ≡ length (owners self.now.special self.now.immediates self.now.groups slot) }
+        ensures { result
+            ≡ length (owners self.now.special self.now.immediates self.now.groups slot) }
     {
         u32::from(self.special.is_some_and(|c| c.root_index == slot))
             + u32::from(self.immediates.is_some_and(|i| i.root_index == slot))
@@ -114,16 +92,16 @@ impl RootParts {
 
     // Whether each slot below the total has one owner.
     pub(crate) fn once(&self, total: u32) -> bool
-        ensures { result ≡ once_below (owners self.now.special self.now.immediates self.now.groups) total }
+        ensures { result
+            ≡ once_below (owners self.now.special self.now.immediates self.now.groups) total }
     {
         (0..total).all(|slot| self.count(slot) == 1)
     }
 
-    // The slots of all groups that a kind of owner has, as a mask, from those of each group. A loop: as a fold, whose
-    // closure calls the parameter, the proof did not close.
+    // The slots of all groups that a kind of owner has, as a mask, from those of each group.
     fn mask<F: Fn(BindGroupInfo) -> u64>(&self, slots: F) -> u64
         requires { F.IsAlwaysCallable slots }
-        ensures { (kind : Owner → Bool) → ((g : BindGroupInfo) (m : ℕ) → F.post slots g m → (k : ℕ) → bit m k ≡ (nat_lt k 64 && held kind (of_group k (Some g)))) → (k : ℕ) → bit result k ≡ (nat_lt k 64 && held kind (of_groups k self.now.groups)) }
+        ensures { Gathered (λ g m. F.post slots g m) self.now.groups result }
     {
         let mut mask = 0;
         for info in &self.groups {
@@ -136,8 +114,8 @@ impl RootParts {
 
     // The table slots and the uniform slots of all groups, as masks.
     pub(crate) fn masks(&self) -> (u64, u64)
-        ensures tables { (k : ℕ) → bit result.0 k ≡ (nat_lt k 64 && held is_table (of_groups k self.now.groups)) }
-        ensures uniforms { (k : ℕ) → bit result.1 k ≡ (nat_lt k 64 && held is_uniform (of_groups k self.now.groups)) }
+        ensures tables { Masks is_table (λ k. of_groups k self.now.groups) result.0 }
+        ensures uniforms { Masks is_uniform (λ k. of_groups k self.now.groups) result.1 }
     {
         let tables = self.mask(|g| span(u64::from(g.base_root_index), first_uniform(g)));
         let uniforms = self.mask(|g| span(first_uniform(g), behind_last(g)));

@@ -1,19 +1,18 @@
-// The layout of a pipeline's root slots.
-ghost use Rattle.std.specs.Prelude.{◌≡◌, ℕ, true, IfOk, Some, None, Decides, MatchResult, slice_index_or};
-ghost use Rattle.command_list.specs.Seen.{number_of};
+//! The layout of a pipeline's root slots.
+ghost use Rattle.std.specs.Prelude.{◌≡◌, ℕ, true, IfOk, Decides};
 ghost use Rattle.command_list.specs.Bits.{bit};
-ghost use Rattle.layouts.specs.Owners.{sound, owner_of, owned, is_table, is_uniform, placed, verdict};
+ghost use Rattle.command_list.specs.Refusals.{fault_of};
+ghost use Rattle.layouts.specs.Owners.{sound, owner_of, owned, is_table, is_uniform, verdict};
 
-use crate::checks::{RootParts, place};
+use crate::checks::RootParts;
 use crate::info::{
-    BindGroupInfo, GroupEntry, ImmediatesInfo, MAX_BIND_GROUPS, Owner,
-    PipelineLayoutSpecialConstants,
+    BindGroupInfo, ImmediatesInfo, MAX_BIND_GROUPS, Owner, PipelineLayoutSpecialConstants,
 };
 use crate::mask::has;
 use command_list::fault::{Fault, Number};
 
-// What a pipeline expects at its root slots. The masks have the slots of tables and of uniforms. The parts stand
-// singly: as one struct they would be no plainer, since clauses here and in other crates speak of each by itself.
+/// What a pipeline expects at its root slots: `PipelineLayout`, with `PipelineLayoutShared`, in the
+/// Rust. Each slot below the total has one owner, and no other slot has any.
 #[derive(Clone, Copy)]
 pub struct PipelineLayout {
     signature: u32,
@@ -23,27 +22,35 @@ pub struct PipelineLayout {
     bind_group_infos: [Option<BindGroupInfo>; MAX_BIND_GROUPS],
     tables: u64,
     uniforms: u64,
-    ghost ok: { sound signature total_root_elements special_constants immediates_info bind_group_infos ≡ true },
-    ghost table_slots: { (k : ℕ) → bit tables k ≡ owned is_table (owner_of special_constants immediates_info bind_group_infos k) },
-    ghost uniform_slots: { (k : ℕ) → bit uniforms k ≡ owned is_uniform (owner_of special_constants immediates_info bind_group_infos k) },
+    ghost ok: { sound signature total_root_elements
+        special_constants immediates_info bind_group_infos ≡ true },
+    ghost table_slots: { (k : ℕ) → bit tables k
+        ≡ owned is_table (owner_of special_constants immediates_info bind_group_infos k) },
+    ghost uniform_slots: { (k : ℕ) → bit uniforms k
+        ≡ owned is_uniform (owner_of special_constants immediates_info bind_group_infos k) },
 }
 
 impl PipelineLayout {
-    // A layout of these parts. Of two groups with one index the later stands.
+    ghost use Rattle.layouts.specs.Layouts.{HasParts, owner_in, group_in};
+
+    /// A layout of these parts. The group at index `i` stands at place `i` of `groups`.
+    ///
+    /// Refused, at place 0 and in this order: a signature of 0 with 1; more than 64 slots, an owned
+    /// slot that is not below the total, or immediates that are not 1 to 32 words with 11; a slot
+    /// below the total that has no owner, or two, with 12.
     pub fn new(
         signature: u32,
         total: u32,
         special: Option<PipelineLayoutSpecialConstants>,
         immediates: Option<ImmediatesInfo>,
-        groups: &[GroupEntry],
+        groups: [Option<BindGroupInfo>; MAX_BIND_GROUPS],
     ) -> Result<PipelineLayout, Fault>
-        ensures answer { MatchResult result (λ _. verdict signature total special immediates groups.now ≡ None) (λ f. (verdict signature total special immediates groups.now ≡ Some (number_of f.number)) × (f.place ≡ 0)) }
-        ensures parts { IfOk result (λ l. (l.signature ≡ signature) × (l.total_root_elements ≡ total) × (l.special_constants ≡ special) × (l.immediates_info ≡ immediates) × (l.bind_group_infos ≡ placed groups.now)) }
+        ensures answer { fault_of result ≡ verdict signature total special immediates groups }
+        ensures parts { IfOk result (HasParts signature total special immediates groups) }
     {
         if signature == 0 {
             return Err(Number::Range.at(0));
         }
-        let groups = place(groups)?;
         let parts = RootParts {
             special,
             immediates,
@@ -67,9 +74,9 @@ impl PipelineLayout {
         })
     }
 
-    // Who owns a slot.
+    /// Who owns a slot, if one does.
     pub fn owner(&self, slot: u32) -> Option<Owner>
-        ensures { result ≡ owner_of self.now.special_constants self.now.immediates_info self.now.bind_group_infos slot }
+        ensures { result ≡ owner_in self.now slot }
     {
         if self.special_constants.is_some_and(|c| c.root_index == slot) {
             return Some(Owner::Special);
@@ -86,46 +93,49 @@ impl PipelineLayout {
         None
     }
 
+    /// The root signature's handle, which is not 0.
     pub fn signature(&self) -> u32
         ensures { result ≡ self.now.signature }
     {
         self.signature
     }
 
-    // How many root slots there are.
+    /// How many root slots there are, 64 at most.
     pub fn total(&self) -> u32
         ensures { result ≡ self.now.total_root_elements }
     {
         self.total_root_elements
     }
 
+    /// The slot of the special constants, if there is one.
     pub fn special(&self) -> Option<PipelineLayoutSpecialConstants>
         ensures { result ≡ self.now.special_constants }
     {
         self.special_constants
     }
 
+    /// The slot of the immediates, if there is one.
     pub fn immediates(&self) -> Option<ImmediatesInfo>
         ensures { result ≡ self.now.immediates_info }
     {
         self.immediates_info
     }
 
-    // The group at an index, if the layout has one there.
+    /// The group at an index, if the layout has one there. There is none from index 8 on.
     pub fn group(&self, index: u32) -> Option<BindGroupInfo>
-        ensures { result ≡ slice_index_or self.now.bind_group_infos index None }
+        ensures { result ≡ group_in self.now index }
     {
         self.bind_group_infos.get(index as usize).copied().flatten()
     }
 
-    // The slots that tables own.
+    /// The slots that tables own, as a mask.
     pub fn tables(&self) -> u64
         ensures { result ≡ self.now.tables }
     {
         self.tables
     }
 
-    // The slots that uniforms own.
+    /// The slots that uniforms own, as a mask.
     pub fn uniforms(&self) -> u64
         ensures { result ≡ self.now.uniforms }
     {
@@ -133,8 +143,7 @@ impl PipelineLayout {
     }
 }
 
-// Two layouts are equal when their parts are; the masks follow from these. By hand, since a derive would promise
-// a test of its own, which has the masks in it too, and contracts above name `same_layout`.
+// Two layouts are equal when their parts are: the masks follow from these.
 impl PartialEq for PipelineLayout {
     ghost use Rattle.layouts.specs.Equal.{same_layout};
     ghost use Rattle.layouts.specs.EqualLaws.{layout_per};

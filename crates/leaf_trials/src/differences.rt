@@ -4,7 +4,7 @@ use crate::plots::{FIRST, agree, driven, pipeline};
 use command_list::command::{Command, Fixed, Half};
 use command_list::fault::Fault;
 use encoder::attachment::ColorAttachment;
-use layouts::info::{BindGroupInfo, GroupEntry, PipelineLayoutSpecialConstants};
+use layouts::info::{BindGroupInfo, PipelineLayoutSpecialConstants};
 use layouts::layout::PipelineLayout;
 use layouts::pipeline::{ComputePipeline, RenderPipeline};
 use list_bytes::ListBytes;
@@ -33,7 +33,8 @@ fn layout(
     special: Option<PipelineLayoutSpecialConstants>,
     info: BindGroupInfo,
 ) -> Result<PipelineLayout, Fault> {
-    PipelineLayout::new(5, total, special, None, &[GroupEntry { index: 0, info }])
+    let groups = [Some(info), None, None, None, None, None, None, None];
+    PipelineLayout::new(5, total, special, None, groups)
 }
 
 fn set_pipeline(pipeline: &RenderPipeline) -> Call<'_> {

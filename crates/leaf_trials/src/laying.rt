@@ -1,20 +1,28 @@
 // Layouts at the edges of what is asked of them.
 
 use layouts::info::{
-    BindGroupInfo, GroupEntry, ImmediatesInfo, Owner, PipelineLayoutSpecialConstants,
+    BindGroupInfo, ImmediatesInfo, MAX_BIND_GROUPS, Owner, PipelineLayoutSpecialConstants,
 };
 use layouts::layout::PipelineLayout;
 use std::test::Fail;
 
-fn group(index: u32, base_root_index: u32, table: bool, uniforms: u32) -> GroupEntry {
-    GroupEntry {
-        index,
-        info: BindGroupInfo {
-            base_root_index,
-            table,
-            uniforms,
-        },
-    }
+type Groups = [Option<BindGroupInfo>; MAX_BIND_GROUPS];
+
+const NO_GROUP: Groups = [None; MAX_BIND_GROUPS];
+
+fn group(base_root_index: u32, table: bool, uniforms: u32) -> Option<BindGroupInfo> {
+    Some(BindGroupInfo {
+        base_root_index,
+        table,
+        uniforms,
+    })
+}
+
+// Groups of which one alone is there, at index 0.
+fn alone(base_root_index: u32, table: bool, uniforms: u32) -> Groups {
+    let mut groups = NO_GROUP;
+    groups[0] = group(base_root_index, table, uniforms);
+    groups
 }
 
 fn special(root_index: u32) -> Option<PipelineLayoutSpecialConstants> {
@@ -34,7 +42,7 @@ fn made(
     total: u32,
     special: Option<PipelineLayoutSpecialConstants>,
     immediates: Option<ImmediatesInfo>,
-    groups: &[GroupEntry],
+    groups: Groups,
 ) -> Result<(), u8> {
     match PipelineLayout::new(signature, total, special, immediates, groups) {
         Ok(_) => Ok(()),
@@ -44,50 +52,46 @@ fn made(
 
 #[test]
 fn totals(rt: HostRuntime) {
-    assert_eq!(rt; made(5, 0, None, None, &[]), Ok(()));
-    assert_eq!(rt; made(5, 64, None, None, &[group(0, 0, true, 63)]), Ok(()));
-    assert_eq!(rt; made(5, 65, None, None, &[group(0, 0, true, 64)]), Err(11));
-    assert_eq!(rt; made(0, 0, None, None, &[]), Err(1));
-    assert_eq!(rt; made(0, 65, None, None, &[]), Err(1));
+    assert_eq!(rt; made(5, 0, None, None, NO_GROUP), Ok(()));
+    assert_eq!(rt; made(5, 64, None, None, alone(0, true, 63)), Ok(()));
+    assert_eq!(rt; made(5, 65, None, None, alone(0, true, 64)), Err(11));
+    assert_eq!(rt; made(0, 0, None, None, NO_GROUP), Err(1));
+    assert_eq!(rt; made(0, 65, None, None, NO_GROUP), Err(1));
 }
 
 // The same of groups alone.
-fn grouped(total: u32, groups: &[GroupEntry]) -> Result<(), u8> {
+fn grouped(total: u32, groups: Groups) -> Result<(), u8> {
     made(5, total, None, None, groups)
 }
 
 #[test]
 fn groups(rt: HostRuntime) {
-    assert_eq!(rt; grouped(1, &[group(7, 0, true, 0)]), Ok(()));
-    assert_eq!(rt; grouped(1, &[group(8, 0, true, 0)]), Err(1));
-    assert_eq!(rt; grouped(0, &[group(0, 4_000_000_000, false, 0)]), Ok(()));
-    let wide = [group(0, 4_294_967_295, true, 4_294_967_295)];
-    assert_eq!(rt; grouped(1, &wide), Err(11));
-    assert_eq!(rt; grouped(2, &[group(0, 0, true, 0)]), Err(12));
-    let twice = [group(0, 0, true, 0), group(1, 0, false, 1)];
-    assert_eq!(rt; grouped(1, &twice), Err(12));
-    let replaced = [group(0, 9, true, 0), group(0, 0, true, 0)];
-    assert_eq!(rt; grouped(1, &replaced), Ok(()));
+    let mut last = NO_GROUP;
+    last[7] = group(0, true, 0);
+    assert_eq!(rt; grouped(1, last), Ok(()));
+    assert_eq!(rt; grouped(0, last), Err(11));
+    assert_eq!(rt; grouped(0, alone(4_000_000_000, false, 0)), Ok(()));
+    assert_eq!(rt; grouped(1, alone(4_294_967_295, true, 4_294_967_295)), Err(11));
+    assert_eq!(rt; grouped(2, alone(0, true, 0)), Err(12));
+    let mut twice = alone(0, true, 0);
+    twice[1] = group(0, false, 1);
+    assert_eq!(rt; grouped(1, twice), Err(12));
 }
 
 #[test]
 fn single_slots(rt: HostRuntime) {
-    assert_eq!(rt; made(5, 2, special(0), immediates(1, 32), &[]), Ok(()));
-    assert_eq!(rt; made(5, 2, special(2), immediates(1, 32), &[]), Err(11));
-    assert_eq!(rt; made(5, 1, None, immediates(0, 0), &[]), Err(11));
-    assert_eq!(rt; made(5, 1, None, immediates(0, 33), &[]), Err(11));
-    assert_eq!(rt; made(5, 1, special(0), immediates(0, 1), &[]), Err(12));
+    assert_eq!(rt; made(5, 2, special(0), immediates(1, 32), NO_GROUP), Ok(()));
+    assert_eq!(rt; made(5, 2, special(2), immediates(1, 32), NO_GROUP), Err(11));
+    assert_eq!(rt; made(5, 1, None, immediates(0, 0), NO_GROUP), Err(11));
+    assert_eq!(rt; made(5, 1, None, immediates(0, 33), NO_GROUP), Err(11));
+    assert_eq!(rt; made(5, 1, special(0), immediates(0, 1), NO_GROUP), Err(12));
 }
 
 #[test]
 fn owners(rt: HostRuntime) -> Result<(), Fail> {
-    let layout = PipelineLayout::new(
-        5,
-        6,
-        special(5),
-        immediates(0, 4),
-        &[group(3, 1, true, 2), group(0, 4, false, 1)],
-    )?;
+    let mut groups = alone(4, false, 1);
+    groups[3] = group(1, true, 2);
+    let layout = PipelineLayout::new(5, 6, special(5), immediates(0, 4), groups)?;
     let wanted = [
         Owner::Immediates,
         Owner::Table,

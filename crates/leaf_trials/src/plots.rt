@@ -5,7 +5,7 @@ use command_list::command::{Barrier, BarrierType, Command, Fixed, Half};
 use command_list::fault::Fault;
 use device::recorder::Recorder;
 use encoder::attachment::ColorAttachment;
-use layouts::info::{BindGroupInfo, GroupEntry, PipelineLayoutSpecialConstants};
+use layouts::info::{BindGroupInfo, PipelineLayoutSpecialConstants};
 use layouts::layout::PipelineLayout;
 use layouts::pipeline::RenderPipeline;
 use list_bytes::ListBytes;
@@ -24,6 +24,11 @@ const MOST_CALLS: usize = 12;
 
 // Signature 5, three slots: group 0 at slot 0 with a table and one uniform, special constants at slot 2.
 fn layout(own_signature: bool) -> Result<PipelineLayout, Fault> {
+    let group = BindGroupInfo {
+        base_root_index: 0,
+        table: true,
+        uniforms: 1,
+    };
     PipelineLayout::new(
         5,
         3,
@@ -32,14 +37,7 @@ fn layout(own_signature: bool) -> Result<PipelineLayout, Fault> {
             own_signature,
         }),
         None,
-        &[GroupEntry {
-            index: 0,
-            info: BindGroupInfo {
-                base_root_index: 0,
-                table: true,
-                uniforms: 1,
-            },
-        }],
+        [Some(group), None, None, None, None, None, None, None],
     )
 }
 

@@ -1,3 +1,4 @@
 pub mod Lines
 pub mod Naming
+pub mod Numerals
 pub mod Telling

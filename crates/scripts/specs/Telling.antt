@@ -10,11 +10,10 @@ abbrev pub printed : NotDone → List ℕ
 printed BadLine = codes "bad line"
 printed (Unknown name) = codes "unknown " ++ string_bytes name
 printed NotOffered = codes "not offered"
-printed (Refused f) = codes "refused " ++ (decimal (number_of f.number) ++ (codes " " ++ decimal f.place))
+printed (Refused f) =
+    codes "refused " ++ (decimal (number_of f.number) ++ (codes " " ++ decimal f.place))
 printed (Memory e) = codes "memory allocation failed"
 
 abbrev pub no_hex : FromHexError → NotDone
-no_hex (hex.InvalidHexCharacter c i) = BadLine
-no_hex hex.OddLength = BadLine
-no_hex hex.InvalidStringLength = BadLine
 no_hex hex.OutOfMemory = Memory alloc_error
+no_hex _ = BadLine

@@ -1,4 +1,4 @@
-// Lines that define: layouts, pipelines, and the scratch that calls are given.
+//! Lines that define: layouts, pipelines, and the scratch that calls are given.
 ghost use Rattle.std.specs.Prelude.{◌≡◌, false, IfOk};
 ghost use Rattle.scripts.specs.Lines.{says_nothing};
 
@@ -6,7 +6,10 @@ use crate::fronts::{Front, Fronts};
 use crate::line::{ComputeParts, LayoutParts, Line, RenderParts};
 use crate::not_done::NotDone;
 use crate::words::number;
-use layouts::info::{BindGroupInfo, GroupEntry, ImmediatesInfo, PipelineLayoutSpecialConstants};
+use command_list::fault::Number;
+use layouts::info::{
+    BindGroupInfo, ImmediatesInfo, MAX_BIND_GROUPS, PipelineLayoutSpecialConstants,
+};
 use std::alloc::Global;
 
 // A part of a layout.
@@ -14,7 +17,7 @@ use std::alloc::Global;
 enum Part {
     Special(PipelineLayoutSpecialConstants),
     Immediates(ImmediatesInfo),
-    Group(GroupEntry),
+    Group(usize, BindGroupInfo),
 }
 
 impl Front for Part {
@@ -32,8 +35,8 @@ impl Front for Part {
                     table: is_table(kind)?,
                     uniforms: number(uniforms)?,
                 };
-                let index = number(index)?;
-                Ok((Part::Group(GroupEntry { index, info }), 5))
+                let index: u32 = number(index)?;
+                Ok((Part::Group(index as usize, info), 5))
             }
             _ => Err(NotDone::BadLine),
         }
@@ -58,6 +61,22 @@ fn is_table(word: &str) -> Result<bool, NotDone> {
     }
 }
 
+impl LayoutParts {
+    // A group at its index, where there was none. Whether layouts have groups at this index.
+    fn place(&mut self, index: usize, info: BindGroupInfo) -> Result<bool, NotDone> {
+        match self.groups.get_mut(index) {
+            None => Ok(false),
+            Some(Some(_)) => Err(NotDone::BadLine),
+            Some(place) => {
+                *place = Some(info);
+                Ok(true)
+            }
+        }
+    }
+}
+
+// A layout by its parts. A group at an index that no layout has is refused once the whole line is
+// read.
 pub(crate) fn layout(alloc: Global, operands: &[&str]) -> Result<Line, NotDone>
     ensures { IfOk result (λ l. says_nothing l ≡ false) }
 {
@@ -69,14 +88,18 @@ pub(crate) fn layout(alloc: Global, operands: &[&str]) -> Result<Line, NotDone>
         total: number(total)?,
         special: None,
         immediates: None,
-        groups: Vec::new(alloc),
+        groups: [None; MAX_BIND_GROUPS],
     };
+    let mut in_range = true;
     for part in Fronts::<Part>::over(words) {
         match part? {
             Part::Special(special) => parts.special = Some(special),
             Part::Immediates(immediates) => parts.immediates = Some(immediates),
-            Part::Group(group) => parts.groups.push(group)?,
+            Part::Group(index, info) => in_range = parts.place(index, info)? && in_range,
         }
+    }
+    if !in_range {
+        return Err(NotDone::Refused(Number::Range.at(0)));
     }
     let name = String::from_str(alloc, name)?;
     Ok(Line::Layout { name, parts })

@@ -1,4 +1,5 @@
-// Scripts of calls: what a line says, the names that it defines, and what is printed.
+//! Scripts of calls: what a line says, the names that it defines, and what is printed.
+//! docs/SCRIPT.md says what a script is.
 #![tactic(auto)]
 
 mod definitions;

@@ -1,4 +1,4 @@
-// What a line of a script says.
+//! What a line of a script says.
 ghost use Rattle.std.specs.Prelude.{◌≡◌, true, false, [], Ok, IfOk};
 ghost use Rattle.scripts.specs.declared.line.Line.TheVariants.{Nothing};
 ghost use Rattle.scripts.specs.Lines.{said, says_nothing};
@@ -16,21 +16,23 @@ use crate::words::number;
 use bindings::binding::BufferBinding;
 use bindings::rect::Rect;
 use encoder::attachment::ColorAttachment;
-use layouts::info::{GroupEntry, ImmediatesInfo, PipelineLayoutSpecialConstants};
+use layouts::info::{
+    BindGroupInfo, ImmediatesInfo, MAX_BIND_GROUPS, PipelineLayoutSpecialConstants,
+};
 use resources::barrier::{BufferBarrier, TextureBarrier};
 use std::alloc::Global;
 
-// The parts of a layout.
+/// The parts of a layout, as `PipelineLayout::new` takes them.
 #[derive(Drop)]
 pub struct LayoutParts {
     pub signature: u32,
     pub total: u32,
     pub special: Option<PipelineLayoutSpecialConstants>,
     pub immediates: Option<ImmediatesInfo>,
-    pub groups: Vec<GroupEntry>,
+    pub groups: [Option<BindGroupInfo>; MAX_BIND_GROUPS],
 }
 
-// A pipeline that draws, with its layout by name.
+/// A pipeline that draws, with its layout by name.
 #[derive(Drop)]
 pub struct RenderParts {
     pub handle: u32,
@@ -39,14 +41,14 @@ pub struct RenderParts {
     pub strides: [Option<u32>; 16],
 }
 
-// A pipeline that is dispatched, with its layout by name.
+/// A pipeline that is dispatched, with its layout by name.
 #[derive(Drop)]
 pub struct ComputeParts {
     pub handle: u32,
     pub layout: String,
 }
 
-// A call of the encoder, with its operands. Layouts and pipelines go by their names.
+/// A call of the encoder, with its operands. Layouts and pipelines go by their names.
 #[derive(Drop)]
 pub enum OwnedCall {
     BeginEncoding,
@@ -103,7 +105,7 @@ pub enum OwnedCall {
     },
 }
 
-// What a line says: nothing, a definition, what the next encoding is made with, or a call.
+/// What a line says: nothing, a definition, what the next encoding is made with, or a call.
 #[derive(Drop)]
 pub enum Line {
     Nothing,
@@ -179,7 +181,7 @@ fn read_words(alloc: Global, verb: &str, operands: &[&str]) -> Result<Line, NotD
     }
 }
 
-// A line without its comment and the blanks round it.
+/// A line without its comment, which begins at the first `#`, and the blanks round it.
 pub fn bare(text: &str) -> &str
     ensures { result.now ≡ said text.now }
 {
@@ -188,7 +190,9 @@ pub fn bare(text: &str) -> &str
         .trim()
 }
 
-// What a line says: nothing exactly where it is bare of words.
+/// What a line says: nothing exactly where it is bare of words. docs/SCRIPT.md has all lines.
+///
+/// Refused with 1: a layout with a group at an index of 8 or more.
 pub fn read(alloc: Global, text: &str) -> Result<Line, NotDone>
     ensures empty { said text.now ≡ [] → result ≡ Ok Nothing }
     ensures words { IfOk result (λ l. says_nothing l ≡ true → said text.now ≡ []) }

@@ -1,7 +1,7 @@
-// The layouts and pipelines that a script has defined so far, by their names.
+//! The layouts and pipelines that a script has defined so far, by their names.
 ghost use Rattle.std.specs.Prelude.{◌≡◌, Some, None, MatchResult, OnOk, OnErr, IfErr, string_bytes};
 ghost use Rattle.std.specs.BTreeMap.{get_by_text, IsEmpty};
-ghost use Rattle.scripts.specs.Naming.{Unfound};
+ghost use Rattle.scripts.specs.Naming.{Finds, Unfound};
 
 use crate::line::{ComputeParts, LayoutParts, RenderParts};
 use crate::not_done::NotDone;
@@ -10,7 +10,8 @@ use layouts::pipeline::{ComputePipeline, RenderPipeline};
 use std::alloc::Global;
 use std::collections::BTreeMap;
 
-// Each kind has names of its own. Of two definitions of one name the later stands.
+/// Layouts, render pipelines and compute pipelines each have names of their own. Of two definitions
+/// of one name the later stands.
 #[derive(Drop)]
 pub struct Names {
     alloc: Global,
@@ -21,7 +22,7 @@ pub struct Names {
 
 // What a name stands for, if it is defined.
 fn named<T: Copy>(alloc: Global, defined: &BTreeMap<String, T>, name: &str) -> Result<T, NotDone>
-    ensures { MatchResult result (λ v. get_by_text defined.now name.now ≡ Some v) (λ e. (get_by_text defined.now name.now ≡ None) × Unfound defined.now name.now e) }
+    ensures { Finds defined.now name.now result }
 {
     match defined.get(name) {
         Some(value) => Ok(*value),
@@ -32,9 +33,11 @@ fn named<T: Copy>(alloc: Global, defined: &BTreeMap<String, T>, name: &str) -> R
 impl Names {
     ghost use Rattle.scripts.specs.Naming.{told, verdict_of, Keeps, DefinesLayout, DefinesRenderPipeline, DefinesComputePipeline};
 
-    // No name.
+    /// No name is defined.
     pub fn new(alloc: Global) -> Names
-        ensures { IsEmpty result.layouts × IsEmpty result.render_pipelines × IsEmpty result.compute_pipelines }
+        ensures layouts { IsEmpty result.layouts }
+        ensures render { IsEmpty result.render_pipelines }
+        ensures compute { IsEmpty result.compute_pipelines }
     {
         Names {
             alloc,
@@ -44,28 +47,32 @@ impl Names {
         }
     }
 
+    /// The layout that a name stands for.
     pub fn layout(&self, name: &str) -> Result<PipelineLayout, NotDone>
-        ensures { MatchResult result (λ l. get_by_text self.now.layouts name.now ≡ Some l) (λ e. (get_by_text self.now.layouts name.now ≡ None) × Unfound self.now.layouts name.now e) }
+        ensures { Finds self.now.layouts name.now result }
     {
         named(self.alloc, &self.layouts, name)
     }
 
+    /// The render pipeline that a name stands for.
     pub fn render_pipeline(&self, name: &str) -> Result<RenderPipeline, NotDone>
-        ensures { MatchResult result (λ p. get_by_text self.now.render_pipelines name.now ≡ Some p) (λ e. (get_by_text self.now.render_pipelines name.now ≡ None) × Unfound self.now.render_pipelines name.now e) }
+        ensures { Finds self.now.render_pipelines name.now result }
     {
         named(self.alloc, &self.render_pipelines, name)
     }
 
+    /// The compute pipeline that a name stands for.
     pub fn compute_pipeline(&self, name: &str) -> Result<ComputePipeline, NotDone>
-        ensures { MatchResult result (λ p. get_by_text self.now.compute_pipelines name.now ≡ Some p) (λ e. (get_by_text self.now.compute_pipelines name.now ≡ None) × Unfound self.now.compute_pipelines name.now e) }
+        ensures { Finds self.now.compute_pipelines name.now result }
     {
         named(self.alloc, &self.compute_pipelines, name)
     }
 
-    // A layout, which is refused as `PipelineLayout::new` says.
+    /// A layout, which is refused as `PipelineLayout::new` says.
     pub fn define_layout(&mut self, name: String, parts: &LayoutParts) -> Result<(), NotDone>
-        ensures answer { MatchResult result (λ _. verdict_of parts.now ≡ None) (λ e. verdict_of parts.now ≡ told e) }
-        ensures defined { OnOk result (DefinesLayout (string_bytes name) parts.now self.old.layouts self.new.layouts) }
+        ensures answer { told result ≡ verdict_of parts.now }
+        ensures defined { OnOk result
+            (DefinesLayout (string_bytes name) parts.now self.old.layouts self.new.layouts) }
         ensures kept { OnErr result (Keeps self.old.layouts self.new.layouts) }
     {
         let layout = PipelineLayout::new(
@@ -73,13 +80,13 @@ impl Names {
             parts.total,
             parts.special,
             parts.immediates,
-            parts.groups.as_slice(),
+            parts.groups,
         )?;
         self.layouts.insert(name, layout)?;
         Ok(())
     }
 
-    // A pipeline that draws. It has the layout that its layout's name stands for now.
+    /// A pipeline that draws. It keeps the layout that its layout's name stands for now.
     pub fn define_render_pipeline(
         &mut self,
         name: String,
@@ -87,7 +94,8 @@ impl Names {
     ) -> Result<(), NotDone>
         ensures kept { OnErr result (Keeps self.old.render_pipelines self.new.render_pipelines) }
         ensures refused { IfErr result (Unfound self.old.layouts (string_bytes parts.now.layout)) }
-        ensures defined { OnOk result (DefinesRenderPipeline (string_bytes name) parts.now self.old.layouts self.old.render_pipelines self.new.render_pipelines) }
+        ensures defined { OnOk result (DefinesRenderPipeline (string_bytes name) parts.now
+            self.old.layouts self.old.render_pipelines self.new.render_pipelines) }
     {
         let pipeline = RenderPipeline {
             handle: parts.handle,
@@ -99,7 +107,7 @@ impl Names {
         Ok(())
     }
 
-    // A pipeline that is dispatched, with its layout likewise.
+    /// A pipeline that is dispatched. It keeps the layout that its layout's name stands for now.
     pub fn define_compute_pipeline(
         &mut self,
         name: String,
@@ -107,7 +115,8 @@ impl Names {
     ) -> Result<(), NotDone>
         ensures kept { OnErr result (Keeps self.old.compute_pipelines self.new.compute_pipelines) }
         ensures refused { IfErr result (Unfound self.old.layouts (string_bytes parts.now.layout)) }
-        ensures defined { OnOk result (DefinesComputePipeline (string_bytes name) parts.now self.old.layouts self.old.compute_pipelines self.new.compute_pipelines) }
+        ensures defined { OnOk result (DefinesComputePipeline (string_bytes name) parts.now
+            self.old.layouts self.old.compute_pipelines self.new.compute_pipelines) }
     {
         let pipeline = ComputePipeline {
             handle: parts.handle,

@@ -1,4 +1,4 @@
-// Why a line of a script is not done.
+//! Why a line of a script is not done.
 ghost use Rattle.std.specs.Prelude.{◌≡◌, alloc_error};
 ghost use Rattle.scripts.specs.declared.not_done.NotDone.TheVariants.{Refused, Memory};
 
@@ -8,14 +8,18 @@ use std::alloc::{AllocError, AllocFailed};
 use std::error::Error;
 use std::fmt;
 
+/// Why a line is not done, and what is printed below it.
 #[derive(Debug, Drop)]
 pub enum NotDone {
+    /// The line cannot be read.
     BadLine,
-    // A name that no line before defined.
+    /// A name that no line before defined.
     Unknown(String),
-    // A call that the encoder does not offer where it stands.
+    /// A call that the encoder does not offer where it stands.
     NotOffered,
+    /// A call or a layout that is refused.
     Refused(Fault),
+    /// No memory is left.
     Memory(AllocError),
 }
 

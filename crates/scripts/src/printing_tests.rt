@@ -206,7 +206,8 @@ fn followed(
     Ok(())
 }
 
-// What the Rust's encoder has after the same calls: its text was compiled unchanged over stand-ins, and asked.
+// What the Rust's encoder has after the same calls: its text was compiled unchanged over stand-ins,
+// and asked.
 #[test]
 fn records_of_passes(rt: HostRuntime) -> Result<(), Fail> {
     let mut names = Names::new(rt.alloc());

@@ -241,11 +241,10 @@ fn definitions(rt: HostRuntime) -> Result<(), Fail> {
             .immediates
             .is_some_and(|i| (i.root_index, i.size) == (1, 2))
     );
-    let [group] = parts.groups.as_slice() else {
+    let [None, None, None, Some(info), None, None, None, None] = parts.groups else {
         return Err(Fail::new("other groups"));
     };
-    let info = group.info;
-    assert!(rt; (group.index, info.base_root_index, info.uniforms) == (3, 2, 1) && info.table);
+    assert!(rt; (info.base_root_index, info.uniforms) == (2, 1) && info.table);
     let text = "render_pipeline R0 9 L0 4 stride 15 16 stride 0 0";
     let Line::RenderPipeline { name, parts } = read(alloc, text)? else {
         return Err(Fail::new("another line"));
@@ -293,6 +292,8 @@ fn bad_lines(rt: HostRuntime) -> Result<(), Fail> {
         "layout L0 1 2 special",
         "layout L0 1 2 immediates 1",
         "layout L0 1 2 group 1 2 tables 3",
+        "layout L0 1 2 group 1 2 table 3 group 1 2 plain 3",
+        "layout L0 1 2 group 8 2 table 3 immediates",
         "render_pipeline R0 1 L0 4 stride 16 1",
         "render_pipeline R0 1 L0 4 stride 1",
         "render_pipeline R0 1 L0 4 strides 1 1",
@@ -308,11 +309,12 @@ fn bad_lines(rt: HostRuntime) -> Result<(), Fail> {
 
 // What is printed of a line that defines, if something is.
 fn define(alloc: Global, names: &mut Names, text: &str) -> Result<Option<String>, Fail> {
-    let defined = match read(alloc, text)? {
-        Line::Layout { name, parts } => names.define_layout(name, &parts),
-        Line::RenderPipeline { name, parts } => names.define_render_pipeline(name, &parts),
-        Line::ComputePipeline { name, parts } => names.define_compute_pipeline(name, &parts),
-        _ => return Err(Fail::new("no definition")),
+    let defined = match read(alloc, text) {
+        Ok(Line::Layout { name, parts }) => names.define_layout(name, &parts),
+        Ok(Line::RenderPipeline { name, parts }) => names.define_render_pipeline(name, &parts),
+        Ok(Line::ComputePipeline { name, parts }) => names.define_compute_pipeline(name, &parts),
+        Ok(_) => return Err(Fail::new("no definition")),
+        Err(error) => Err(error),
     };
     match defined {
         Ok(()) => Ok(None),
@@ -330,6 +332,10 @@ fn names_of_layouts_and_pipelines(rt: HostRuntime) -> Result<(), Fail> {
         ("layout L0 5 1 special 1", "refused 11 0"),
         ("layout L0 5 1", "refused 12 0"),
         ("layout L0 5 1 group 8 0 table 0", "refused 1 0"),
+        (
+            "layout L0 5 1 group 4294967295 0 table 0 group 0 0 table 0",
+            "refused 1 0",
+        ),
         ("render_pipeline R0 9 L0 4", "unknown L0"),
         ("layout L0 5 1 special 0", ""),
         ("render_pipeline R0 9 L0 4 stride 1 16", ""),

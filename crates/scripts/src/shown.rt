@@ -1,4 +1,4 @@
-// What is printed: a record of a list, and the record of a pass.
+//! What is printed: a record of a list, and the record of a pass.
 use command_list::command::{Barrier, Fixed, Half};
 use command_list::record::Record;
 use list_writer::writer::Recordable;
@@ -8,7 +8,7 @@ use passes::state::PassState;
 use passes::vertices::VertexBufferView;
 use std::fmt;
 
-// A record: its code and its operands, in the order of docs/LIST_FORMAT.md, decimal.
+/// A record: its code and its operands, in the order of docs/LIST_FORMAT.md, decimal.
 #[derive(Clone, Copy)]
 pub struct ShownRecord<'a>(pub Record<'a>);
 
@@ -119,8 +119,8 @@ fn fixed_to<W: fmt::Write>(fixed: Fixed, f: &mut fmt::Formatter<W>) -> fmt::Resu
     }
 }
 
-// The record of a pass: the current signature, or 0, the touched slots, each root slot that has an element, and each
-// vertex view that is not all zeros.
+/// The record of a pass: the current signature, or 0, the dirty slots, each root slot that has an
+/// element, and each vertex view that is not all zeros.
 #[derive(Clone, Copy)]
 pub struct ShownPass<'a>(pub &'a PassState);
 

@@ -1,6 +1,6 @@
-// The words of a line, and the numbers that they say.
-ghost use Rattle.std.specs.Prelude.{◌≡◌, ℕ, List, ◌++◌, codes, ◌≤◌, ◌<◌, ◌^◌, SomeIff};
-ghost use Rattle.std.specs.Str.Parse.{IsNumeral, digits_value};
+//! The words of a line, and the numbers that they say.
+ghost use Rattle.std.specs.Prelude.{◌≡◌, ℕ, List, ◌++◌, codes, ◌≤◌};
+ghost use Rattle.scripts.specs.Numerals.{IsRead};
 
 use crate::not_done::NotDone;
 use std::alloc::Global;
@@ -10,7 +10,7 @@ use std::num::TryFromIntError;
 fn digits_value(digits: &str, radix: u32) -> Option<u64>
     requires least { 2 ≤ radix }
     requires most { radix ≤ 36 }
-    ensures { SomeIff result (IsNumeral radix digits.now × (digits_value radix digits.now < 2 ^ 64)) (digits_value radix digits.now) }
+    ensures { IsRead radix digits.now result }
 {
     if digits.as_bytes().first() == Some(&b'+') {
         return None;
@@ -20,8 +20,9 @@ fn digits_value(digits: &str, radix: u32) -> Option<u64>
 
 // The number that a word says: decimal, or in hex behind 0x.
 fn whole(word: &str) -> Option<u64>
-    ensures hex { (ds : List ℕ) → word.now ≡ codes "0x" ++ ds → SomeIff result (IsNumeral 16 ds × (digits_value 16 ds < 2 ^ 64)) (digits_value 16 ds) }
-    ensures decimal { ((ds : List ℕ) → word.now ≡ codes "0x" ++ ds → ⊥) → SomeIff result (IsNumeral 10 word.now × (digits_value 10 word.now < 2 ^ 64)) (digits_value 10 word.now) }
+    ensures hex { (ds : List ℕ) → word.now ≡ codes "0x" ++ ds → IsRead 16 ds result }
+    ensures decimal { ((ds : List ℕ) → word.now ≡ codes "0x" ++ ds → ⊥)
+        → IsRead 10 word.now result }
 {
     match word.strip_prefix("0x") {
         Some(digits) => digits_value(digits, 16),

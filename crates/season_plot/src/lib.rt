@@ -2,7 +2,7 @@
 // the next curve.
 #![tactic(auto)]
 
-ghost use Rattle.std.specs.Prelude.{◌≡◌, true, Some, MatchResult};
+ghost use Rattle.std.specs.Prelude.{◌≡◌, Some, MatchResult};
 ghost use Rattle.labels.specs.Kept.{units_of};
 ghost use Rattle.runs.specs.Worked.{IsPlotted};
 ghost use Rattle.season_plot.specs.Plot.{plot_label, plot_upload, plot_pipeline, PlotIsRecorded};
@@ -13,7 +13,7 @@ pub mod commands;
 use command_list::command::Barrier;
 use command_list::fault::Fault;
 use labels::label::Label;
-use layouts::info::{BindGroupInfo, GroupEntry, PipelineLayoutSpecialConstants};
+use layouts::info::{BindGroupInfo, PipelineLayoutSpecialConstants};
 use layouts::layout::PipelineLayout;
 use layouts::pipeline::RenderPipeline;
 use resources::barrier::{BufferBarrier, StateTransition};
@@ -39,27 +39,26 @@ const UPLOAD: BufferBarrier = BufferBarrier {
     },
 };
 
-// The plot's layout: three slots, of which group 0 owns the first two, a table and a uniform, and
-// the special constants the third, with an indirect signature of its own.
-pub fn layout() -> Result<PipelineLayout, Fault>
-    ensures { MatchResult result (IsPlotted true) (λ _. ⊥) }
+/// The layout of the worked plots and of the season plot: three slots, of which group 0 owns the
+/// first two, a table and a uniform, and the special constants the third. `own` says whether
+/// indirect calls take a command signature of the layout's own, as in the season plot.
+pub fn layout(own: bool) -> Result<PipelineLayout, Fault>
+    ensures { MatchResult result (IsPlotted own) (λ _. ⊥) }
 {
+    let group = BindGroupInfo {
+        base_root_index: 0,
+        table: true,
+        uniforms: 1,
+    };
     PipelineLayout::new(
         5,
         3,
         Some(PipelineLayoutSpecialConstants {
             root_index: 2,
-            own_signature: true,
+            own_signature: own,
         }),
         None,
-        &[GroupEntry {
-            index: 0,
-            info: BindGroupInfo {
-                base_root_index: 0,
-                table: true,
-                uniforms: 1,
-            },
-        }],
+        [Some(group), None, None, None, None, None, None, None],
     )
 }
 

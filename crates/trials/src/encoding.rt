@@ -25,7 +25,7 @@ fn encoded<'a>(bytes: &'a mut [u8]) -> Result<(&'a [u8], [Answer; CALLS]), Fault
         mark: Mark { fill: 0 },
     };
     let mut answers = [Answer::NotOffered; CALLS];
-    let pipeline = season_plot::pipeline(season_plot::layout()?);
+    let pipeline = season_plot::pipeline(season_plot::layout(true)?);
     let list = encode_list(bytes, 0, &mut scratch, &calls(&pipeline), &mut answers)?;
     Ok((list, answers))
 }

@@ -5,7 +5,7 @@ use std::test::Fail;
 
 #[test]
 fn the_layout_has_three_slots(rt: HostRuntime) -> Result<(), Fail> {
-    let layout = season_plot::layout()?;
+    let layout = season_plot::layout(true)?;
     assert_eq!(rt; layout.signature(), 5);
     assert_eq!(rt; layout.total(), 3);
     assert!(rt; layout.owner(0) == Some(Owner::Table));

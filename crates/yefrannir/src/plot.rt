@@ -145,7 +145,7 @@ fn show_plot(
 
 // The plot's layout.
 pub(crate) fn plot_layout(rt: &impl AllocGlobal) -> Result<PipelineLayout, Failure> {
-    season_plot::layout().map_err(|fault| refusal(rt.alloc(), "the plot's layout", fault))
+    season_plot::layout(true).map_err(|fault| refusal(rt.alloc(), "the plot's layout", fault))
 }
 
 // The embedded plot.
