@@ -26,7 +26,9 @@ text_units : label_units text ≡ plot_label
 unfolding chars
 text_units = refl
 
-pub label_made : (r : Result Label Fault) → MatchResult r (λ l. Labelled text (take l.len l.units)) (λ f. Refused text f) → MatchResult r (λ l. units_of l ≡ plot_label) (λ _. ⊥)
+pub label_made : (r : Result Label Fault)
+    → MatchResult r (λ l. Labelled text (take l.len l.units)) (λ f. Refused text f)
+    → MatchResult r (λ l. units_of l ≡ plot_label) (λ _. ⊥)
 label_made (Ok l) q = q.units ∙ text_units
 label_made (Err f) (inl q) = absurd (omega (arith, q.1))
 label_made (Err f) (inr q) = q.2 text_formed
@@ -36,15 +38,20 @@ abbrev special : Option PipelineLayoutSpecialConstants
 special = Some (record { root_index = 2; own_signature = true })
 
 abbrev groups : List GroupEntry
-groups = record { index = 0; info = record { base_root_index = 0; table = true; uniforms = 1 } } ∷ []
+groups =
+    record { index = 0; info = record { base_root_index = 0; table = true; uniforms = 1 } } ∷ []
 
 accepted : verdict 5 3 special None groups ≡ None
 unfolding once_below
 accepted = refl
 
 pub layout_made : (r : Result PipelineLayout Fault)
-    → MatchResult r (λ _. verdict 5 3 special None groups ≡ None) (λ f. (verdict 5 3 special None groups ≡ Some (number_of f.number)) × (f.place ≡ 0))
-    → IfOk r (λ l. (l.signature ≡ 5) × (l.total_root_elements ≡ 3) × (l.special_constants ≡ special) × (l.immediates_info ≡ None) × (l.bind_group_infos ≡ placed groups))
+    → MatchResult r (λ _. verdict 5 3 special None groups ≡ None)
+    (λ f. (verdict 5 3 special None groups ≡ Some (number_of f.number)) × (f.place ≡ 0))
+    → IfOk r (λ l. (l.signature ≡ 5) × (l.total_root_elements ≡ 3)
+    × (l.special_constants ≡ special) × (l.immediates_info ≡ None)
+    × (l.bind_group_infos ≡ placed groups))
     → MatchResult r (IsPlotted true) (λ _. ⊥)
-layout_made (Ok l) a q = record { signature = q.0; total = q.1; special = q.2; immediates = q.3; groups = q.4 }
+layout_made (Ok l) a q =
+    record { signature = q.0; total = q.1; special = q.2; immediates = q.3; groups = q.4 }
 layout_made (Err f) a q = absurd (false≢true (ap is_some (sym accepted ∙ a.0)))
