@@ -27,7 +27,9 @@ text_units : label_units text ≡ plot_label
 unfolding chars
 text_units = refl
 
-pub label_made : (r : Result Label Fault) → MatchResult r (λ l. Labelled text (take l.len l.units)) (λ f. Refused text f) → MatchResult r (λ l. units_of l ≡ plot_label) (λ _. ⊥)
+pub label_made : (r : Result Label Fault)
+    → MatchResult r (λ l. Labelled text (take l.len l.units)) (λ f. Refused text f)
+    → MatchResult r (λ l. units_of l ≡ plot_label) (λ _. ⊥)
 label_made (Ok l) q = q.units ∙ text_units
 label_made (Err f) (inl q) = absurd (omega (arith, q.1))
 label_made (Err f) (inr q) = q.2 text_formed

@@ -9,10 +9,12 @@ use Rattle.encoder.specs.Scenes.{verdict, idle}
 use Rattle.encoder.specs.Phases.{scene}
 use Rattle.runs.specs.Worked.{outcomes, empty, IsPlotted}
 use Rattle.runs.proofs.Working.{written, is_written}
-use Rattle.season_plot.specs.Plot.{plot_calls, plot_pipeline, plot_commands, plot_upload, plot_label, all_made, PlotIsRecorded}
+use Rattle.season_plot.specs.Plot.{plot_calls, plot_pipeline, plot_commands, plot_upload, plot_label, all_made, PlotIsRecorded, DrawsHaveVertices}
 
 abbrev Recorded : PipelineLayout → Type 0
-Recorded k = all_made (outcomes (scene idle 0 (empty 340)) (plot_calls 1 0 (plot_pipeline k))) ≡ Some (plot_commands (plot_upload ∷ []) plot_label)
+Recorded k =
+    all_made (outcomes (scene idle 0 (empty 360)) (plot_calls 1 0 (plot_pipeline k)))
+    ≡ Some (plot_commands (plot_upload ∷ []) plot_label)
 
 recorded : (k : PipelineLayout) (p : IsPlotted true k) → Recorded (written true k p)
 unfolding verdict unfit gathered chars extents.single lib.Ieee.to_bits lib.Ieee.of_int
@@ -20,3 +22,6 @@ recorded k p = refl
 
 pub plot_is_recorded : PlotIsRecorded
 plot_is_recorded k p = subst Recorded (sym (is_written true k p)) (recorded k p)
+
+pub draws_have_vertices : DrawsHaveVertices
+draws_have_vertices upload label = refl

@@ -1,7 +1,7 @@
 // The plot as calls of an encoder.
 ghost use Rattle.std.specs.Prelude.{◌≡◌, ℕ, map};
 ghost use Rattle.runs.specs.Offering.{call_of};
-ghost use Rattle.season_plot.specs.Plot.{samples_at, line_from, plot_calls};
+ghost use Rattle.season_plot.specs.Plot.{vertices_at, line_from, plot_calls};
 
 use crate::{LABEL, UPLOAD};
 use bindings::binding::{Buffer, BufferBinding};
@@ -24,18 +24,20 @@ const UNIFORMS: [u64; 1] = [65536];
 
 const OFFSETS: [u32; 1] = [256];
 
-// A gauge's samples, at vertex slot 0.
-fn samples(address: u64) -> Call<'static>
-    ensures { (len fill : ℕ) → call_of len fill result ≡ samples_at address }
+// The bytes of the axes: 3 vertices of 16 bytes.
+const AXES: u64 = 48;
+
+// The bytes of a gauge's samples: 512 vertices of 16 bytes.
+const SAMPLES: u64 = 8192;
+
+// The vertices of a line, at vertex slot 0.
+fn vertices(address: u64, size: u64) -> Call<'static>
+    ensures { (len fill : ℕ) → call_of len fill result ≡ vertices_at address size }
 {
-    let buffer = Buffer {
-        address,
-        size: 4096,
-    };
     Call::SetVertexBuffer {
         index: 0,
         binding: BufferBinding {
-            buffer,
+            buffer: Buffer { address, size },
             offset: 0,
             size: 0,
         },
@@ -54,10 +56,15 @@ fn line(first_vertex: u32, vertex_count: u32) -> Call<'static>
     }
 }
 
-pub const CALLS: usize = 13;
+/// How many calls the plot has.
+pub const CALLS: usize = 14;
 
-// The plot: the upload, then a pass under a label with the axes, a curve from sample 7, the flood's markers, whose number
-// the device finds in a buffer, and another gauge's curve, from sample 7 too.
+/// The plot's calls, over its pipeline: the upload, then a pass under a label with the axes, a
+/// curve from sample 7, the flood's markers, which the device draws as buffer 8 says, and another
+/// gauge's curve, from sample 7 too. The axes and each curve have a vertex buffer of their own.
+///
+/// With one free entry in the scratch and 360 bytes of space every call is taken, as
+/// `plot_is_recorded` says.
 pub fn calls(pipeline: &RenderPipeline) -> [Call<'_>; CALLS]
     ensures { (len fill : ℕ) → map (call_of len fill) result ≡ plot_calls len fill pipeline.now }
 {
@@ -80,15 +87,16 @@ pub fn calls(pipeline: &RenderPipeline) -> [Call<'_>; CALLS]
             },
             dynamic_offsets: &OFFSETS,
         },
-        samples(1048576),
+        vertices(524288, AXES),
         line(0, 3),
+        vertices(1048576, SAMPLES),
         line(7, 360),
         Call::DrawIndirect {
             buffer: 8,
             offset: 0,
             draw_count: 4,
         },
-        samples(2097152),
+        vertices(2097152, SAMPLES),
         line(7, 360),
         Call::EndRenderPass,
         Call::EndEncoding,

@@ -16,14 +16,19 @@ const HEIGHT: u32 = 0x43F0_0000;
 
 const TARGETS: [u64; 1] = [1];
 
-// A gauge's samples, at vertex slot 0.
-fn samples(address: u64) -> Command<'static>
-    ensures { given_command result ≡ IASetVertexBuffers 0 address 4096 16 }
+// The bytes of the axes' vertices, and of a gauge's samples.
+const AXES: u32 = 48;
+
+const SAMPLES: u32 = 8192;
+
+// The vertices of a line, at vertex slot 0.
+fn vertices(address: u64, size: u32) -> Command<'static>
+    ensures { given_command result ≡ IASetVertexBuffers 0 address size 16 }
 {
     Command::Fixed(Fixed::IASetVertexBuffers {
         slot: 0,
         address,
-        size: 4096,
+        size,
         stride: 16,
     })
 }
@@ -52,9 +57,11 @@ fn line(first: u32, count: u32) -> Command<'static>
     })
 }
 
-pub const COMMANDS: usize = 26;
+/// How many commands the plot's calls come to.
+pub const COMMANDS: usize = 27;
 
-// The plot's commands, with the upload's barriers and the label's units.
+/// The plot's commands in their order, with the upload's barriers and the label's UTF-16 units:
+/// what an encoder records of the plot's calls.
 pub fn commands<'a>(upload: &'a [Barrier], label: &'a [u16]) -> [Command<'a>; COMMANDS]
     ensures { map given_command result ≡ plot_commands upload.now label.now }
 {
@@ -80,7 +87,7 @@ pub fn commands<'a>(upload: &'a [Barrier], label: &'a [u16]) -> [Command<'a>; CO
         }),
         Command::Fixed(Fixed::SetPipelineState(9)),
         Command::Fixed(Fixed::IASetPrimitiveTopology(3)),
-        samples(1048576),
+        vertices(524288, AXES),
         Command::Fixed(Fixed::SetRootDescriptorTable {
             half: Half::Graphics,
             slot: 0,
@@ -94,6 +101,7 @@ pub fn commands<'a>(upload: &'a [Barrier], label: &'a [u16]) -> [Command<'a>; CO
         special(0, 0),
         special(1, 0),
         line(0, 3),
+        vertices(1048576, SAMPLES),
         special(0, 7),
         special(1, 0),
         line(7, 360),
@@ -104,7 +112,7 @@ pub fn commands<'a>(upload: &'a [Barrier], label: &'a [u16]) -> [Command<'a>; CO
             buffer: 8,
             offset: 0,
         }),
-        samples(2097152),
+        vertices(2097152, SAMPLES),
         special(0, 7),
         special(1, 0),
         line(7, 360),

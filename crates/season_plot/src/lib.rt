@@ -1,11 +1,19 @@
-// The season plot that the program and its tests carry: one small frame with its axes, a curve, the flood's markers and
-// the next curve.
+//! The season plot that the program and its tests carry: one small frame with its axes, a curve,
+//! the flood's markers and the next curve.
+//!
+//! The plot stands here twice: as calls of an encoder (`calls`) and as the commands that these come
+//! to (`commands`). `plot_is_recorded` carries the statement that the calls record the commands.
+//! A gauge has 512 samples of 16 bytes each, and a curve draws 360 of them, from sample 7 on.
+//!
+//! The markers are an indirect draw with a command signature of the layout's own, which writes the
+//! special constants. The curve behind it needs them written again, and its first sample shows
+//! whether they were.
 #![tactic(auto)]
 
 ghost use Rattle.std.specs.Prelude.{◌≡◌, Some, MatchResult};
 ghost use Rattle.labels.specs.Kept.{units_of};
 ghost use Rattle.runs.specs.Worked.{IsPlotted};
-ghost use Rattle.season_plot.specs.Plot.{plot_label, plot_upload, plot_pipeline, PlotIsRecorded};
+ghost use Rattle.season_plot.specs.Plot.{plot_label, plot_upload, plot_pipeline, PlotIsRecorded, DrawsHaveVertices};
 
 pub mod calls;
 pub mod commands;
@@ -62,7 +70,7 @@ pub fn layout(own: bool) -> Result<PipelineLayout, Fault>
     )
 }
 
-// The plot's pipeline, over its layout.
+/// The plot's pipeline, over its layout. It draws line strips whose vertices have 16 bytes.
 pub fn pipeline(layout: PipelineLayout) -> RenderPipeline
     ensures { result ≡ plot_pipeline layout }
 {
@@ -76,20 +84,23 @@ pub fn pipeline(layout: PipelineLayout) -> RenderPipeline
     }
 }
 
+/// The label of the plot's pass. It is never refused.
 pub fn label() -> Result<Label, Fault>
     ensures { MatchResult result (λ l. units_of l ≡ plot_label) (λ _. ⊥) }
 {
     Label::new(&LABEL)
 }
 
-// The barrier that the upload makes.
+/// The barrier that the upload makes: the samples' buffer was copied to, and is read as vertices.
 pub fn upload() -> Option<Barrier>
     ensures { result ≡ Some plot_upload }
 {
     barrier(&UPLOAD)
 }
 
-// The plot's calls come to the plot's commands: a statement that the check asks for.
+/// Does nothing, and carries two statements. The plot's calls, over 360 bytes of space, record the
+/// plot's commands. Each direct draw among these finds its vertices in the vertex buffer set last.
 pub fn plot_is_recorded()
-    ensures { PlotIsRecorded }
+    ensures recorded { PlotIsRecorded }
+    ensures vertices { DrawsHaveVertices }
 {}

@@ -97,12 +97,12 @@ fn nine_targets(rt: HostRuntime) {
 }
 
 // The season plot as a list.
-fn plot(rt: &impl Abort) -> Result<[u8; 341], Fault> {
+fn plot(rt: &impl Abort) -> Result<[u8; 361], Fault> {
     let label = season_plot::label()?;
     let upload = season_plot::upload();
     let commands = season_plot::commands::commands(upload.as_slice(), label.units());
-    let mut bytes = [0u8; 341];
-    assert_eq!(rt; write(&commands, &mut bytes), Ok(341));
+    let mut bytes = [0u8; 361];
+    assert_eq!(rt; write(&commands, &mut bytes), Ok(361));
     Ok(bytes)
 }
 
@@ -117,7 +117,7 @@ fn cut_at_every_length(rt: HostRuntime) -> Result<(), Fail> {
             whole = n;
         }
     }
-    assert_eq!(rt; whole, 341);
+    assert_eq!(rt; whole, 361);
     Ok(())
 }
 
@@ -137,11 +137,11 @@ fn one_byte_changed_at_every_offset(rt: HostRuntime) -> Result<(), Fail> {
 #[test]
 fn rewritten_to_its_own_bytes(rt: HostRuntime) -> Result<(), Fail> {
     let bytes = plot(&rt)?;
-    let mut again = [7u8; 342];
-    assert_eq!(rt; rewrite(&bytes, &mut again), Ok(341));
-    assert!(rt; again.get(0..341) == Some(&bytes[0..341]));
-    assert_eq!(rt; again[341], 7);
-    let mut short = [7u8; 340];
+    let mut again = [7u8; 362];
+    assert_eq!(rt; rewrite(&bytes, &mut again), Ok(361));
+    assert!(rt; again.get(0..361) == Some(&bytes[0..361]));
+    assert_eq!(rt; again[361], 7);
+    let mut short = [7u8; 360];
     let fault = rewrite(&bytes, &mut short).map_err(|fault| u8::from(fault.number));
     assert_eq!(rt; fault, Err(10));
     assert_eq!(rt; short[0], 7);

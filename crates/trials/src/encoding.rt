@@ -31,18 +31,18 @@ fn encoded<'a>(bytes: &'a mut [u8]) -> Result<(&'a [u8], [Answer; CALLS]), Fault
 }
 
 // The plot's commands as a list.
-fn written() -> Result<[u8; 341], Fault> {
+fn written() -> Result<[u8; 361], Fault> {
     let label = season_plot::label()?;
     let upload = season_plot::upload();
-    let mut bytes = [0u8; 341];
+    let mut bytes = [0u8; 361];
     let _ = write(&commands(upload.as_slice(), label.units()), &mut bytes)?;
     Ok(bytes)
 }
 
 #[test]
-fn the_plot_takes_341_bytes(rt: HostRuntime) -> Result<(), Fail> {
+fn the_plot_takes_361_bytes(rt: HostRuntime) -> Result<(), Fail> {
     season_plot::plot_is_recorded();
-    let mut bytes = [0u8; 341];
+    let mut bytes = [0u8; 361];
     let (list, answers) = encoded(&mut bytes)?;
     assert!(rt; answers.iter().all(|answer| matches!(answer, Answer::Taken)));
     assert!(rt; list == written()?.as_slice());
@@ -50,27 +50,27 @@ fn the_plot_takes_341_bytes(rt: HostRuntime) -> Result<(), Fail> {
 }
 
 #[test]
-fn in_340_bytes_its_end_is_refused(rt: HostRuntime) -> Result<(), Fail> {
-    let mut bytes = [0u8; 340];
+fn in_360_bytes_its_end_is_refused(rt: HostRuntime) -> Result<(), Fail> {
+    let mut bytes = [0u8; 360];
     let (list, answers) = encoded(&mut bytes)?;
     assert!(rt;
         answers
             .iter()
-            .take(11)
+            .take(12)
             .all(|answer| matches!(answer, Answer::Taken))
     );
     assert!(rt;
         matches!(
-            answers[11],
+            answers[12],
             Answer::Refused(Fault {
                 number: Number::Full,
                 place: 0
             })
         )
     );
-    assert!(rt; matches!(answers[12], Answer::NotOffered));
-    assert!(rt; written()?.get(0..334) == Some(list));
-    assert_eq!(rt; check(list), Ok(24));
+    assert!(rt; matches!(answers[13], Answer::NotOffered));
+    assert!(rt; written()?.get(0..354) == Some(list));
+    assert_eq!(rt; check(list), Ok(25));
     Ok(())
 }
 
