@@ -2,6 +2,7 @@
 use Rattle.std.proofs.Common.{IsTrue, ◌≡◌, ℕ, ◌-◌, ◌^◌, ◌<◌, ◌≤◌, true, Some, None, Option, sym, refl, ◌∙◌, subst, arith}
 use Rattle.std.proofs.lemmas.Bool.Decides.{nat_tests}
 use Rattle.std.proofs.lemmas.Bool.{false≢true}
+use Rattle.std.proofs.lemmas.Option.{none-some}
 use Rattle.command_list.specs.declared.command.Half.TheVariants.{Graphics, Compute}
 use Rattle.command_list.specs.Commands.{Command, BeginEvent, OMSetRenderTargets, ResourceBarrier, code_of, byte_of, size, readable}
 use Rattle.list_writer.specs.Writing.{has_list}
@@ -52,7 +53,7 @@ pub board_taken : (c : Command) (s t : State) (k rest most : ℕ) → Sized c k 
 board_taken c s t k rest most z p = record {
   readable = z.readable;
   fits = omega (arith, z.size, z.fits);
-  recorded = record { device = p; least = omega (arith, z.size, z.fits); most = omega arith; made = refl; shown = refl };
+  recorded = record { device = p; least = omega (arith, z.size, z.fits); most = omega arith; made = refl; shown = refl; exact = λ bs e. absurd (none-some bs e) };
 }
 
 -- a command with a list changes nothing but its code's count

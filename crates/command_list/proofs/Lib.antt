@@ -1,4 +1,5 @@
 pub mod Places
 pub mod Runs
+pub mod Refusing
 pub mod Fronts
 pub mod RowPlaces

@@ -2,6 +2,8 @@ pub mod Numbers
 pub mod Commands
 pub mod Decoding
 pub mod Files
+pub mod Bits
 pub mod Seen
+pub mod Refusals
 pub mod RowLaws
 pub mod Shown

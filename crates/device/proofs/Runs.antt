@@ -29,7 +29,7 @@ shown_none (Some xs) = ap Some (sym (append-nil xs))
 
 -- nothing was recorded
 pub recorded_none : (m : Meaning) → Recorded m [] m
-recorded_none m = record { device = refl; least = omega arith; most = omega arith; made = refl; shown = shown_none m.shown }
+recorded_none m = record { device = refl; least = omega arith; most = omega arith; made = refl; shown = shown_none m.shown; exact = λ bs e. omega arith }
 
 -- some commands, then others
 pub recorded_then : (m n k : Meaning) (bs cs : List Command) → Recorded m bs n → Recorded n cs k → Recorded m (bs ++ cs) k
@@ -39,4 +39,5 @@ recorded_then m n k bs cs a b = record {
   most = omega (arith, a.most, b.most);
   made = b.made ∙ a.made;
   shown = b.shown ∙ ap (shown_more cs) a.shown ∙ sym (shown_append bs cs m.shown);
+  exact = λ xs e. omega (arith, a.exact xs e, b.exact (xs ++ bs) (a.shown ∙ ap (shown_more bs) e), sizes_append bs cs);
 }

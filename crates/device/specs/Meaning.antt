@@ -31,6 +31,8 @@ pub record Recorded (m : Meaning) (cs : List Command) (n : Meaning) : Type 0 whe
   pub most : n.space ≤ m.space
   pub made : n.made ≡ m.made
   pub shown : n.shown ≡ shown_more cs m.shown
+  -- where commands are shown, the space falls by exactly the records' sizes
+  pub exact : (bs : List Command) → m.shown ≡ Some bs → m.space ≡ n.space + sizes cs
 
 -- a command was taken: it has a record that the reader takes, which fitted the space
 pub record Taken (m : Meaning) (c : Command) (n : Meaning) : Type 0 where

@@ -6,7 +6,7 @@ use Rattle.command_list.specs.Commands.{Command}
 use Rattle.device.specs.Devices.{VertexView}
 use Rattle.device.specs.Meaning.{Meaning, Recorded, sizes}
 use Rattle.device.proofs.Runs.{sizes_append, recorded_then}
-use Rattle.layouts.specs.Bits.{bit}
+use Rattle.command_list.specs.Bits.{bit}
 use Rattle.layouts.proofs.Masks.{bit_high}
 use Rattle.passes.specs.Account.{Bound, Views}
 use Rattle.device.specs.Writes.{gathered}

@@ -3,78 +3,39 @@ use Rattle.std.proofs.Common.{◌≡◌, ℕ, ◌<◌, ◌≤◌, Bool, true, fa
 use Rattle.std.proofs.lemmas.Bool.{true≢false, and_from, and_parts, or_cases, le-leb, leb-true, lt-leb, lt-ltb, ltb-true, eq-eqb, eqb-true}
 use Rattle.std.specs.Str.{chars}
 use Rattle.command_list.specs.declared.fault.Fault.{Fault}
-use Rattle.command_list.specs.declared.fault.Number.TheVariants as number
 use Rattle.command_list.specs.Commands.{Command, BeginEvent, SetDescriptorHeaps}
 use Rattle.device.specs.Meaning.{Meaning}
 use Rattle.labels.specs.Unicode.{Scalars, utf8s, utf16s, WellFormed}
 use Rattle.labels.specs.Labels.{Labelled, Refused, label_units}
-use Rattle.labels.proofs.Texts.{encoded_once}
+use Rattle.labels.specs.Utf8.{is_utf8}
+use Rattle.labels.proofs.Utf8.{formed_test, test_formed}
 use Rattle.bindings.specs.Extents.{InExtent}
-use Rattle.passes.specs.Calls.{fault, fault_at, unless, before}
 use Rattle.encoder.specs.declared.attachment.ColorAttachment.{ColorAttachment}
-use Rattle.encoder.specs.Opening.{render_pass, compute_pass, opening_records, label_records, label_short, label_text, is_extent, is_utf8, are_scalars, same_numbers, no_target, asks_opening}
+use Rattle.encoder.specs.Opening.{render_pass, compute_pass, opening_records, label_records, label_short, label_text, is_extent, no_target, asks_opening}
 use Rattle.encoder.specs.Putting.{event_records, frame_records, Offered}
-use Rattle.encoder.proofs.Faults.{fault_by}
 use Rattle.encoder.proofs.Handling.{handled_asked}
 use Rattle.encoder.proofs.Sizes.{event_some}
-
--- ---- UTF-8 as a test
-
-same_self : (xs : List ℕ) → same_numbers xs xs ≡ true
-same_self [] = refl
-same_self (x ∷ xs) = and_from _ _ (eq-eqb x x refl) (same_self xs)
-
-same_is : (xs ys : List ℕ) → same_numbers xs ys ≡ true → xs ≡ ys
-same_is [] [] e = refl
-same_is [] (y ∷ ys) e = absurd (true≢false (sym e))
-same_is (x ∷ xs) [] e = absurd (true≢false (sym e))
-same_is (x ∷ xs) (y ∷ ys) e = let p = and_parts _ _ e in ap₂ (λ z zs. z ∷ zs) (eqb-true x y p.0) (same_is xs ys p.1)
-
-scalars_test : (cs : List ℕ) → Scalars cs → are_scalars cs ≡ true
-scalars_test [] s = refl
-scalars_test (c ∷ cs) s = and_from _ _
-    (⊎_elim (λ l. ap (λ b. b || (leb 0xE000 c && ltb c 0x110000)) (lt-ltb c 0xD800 l))
-    (λ l. or_right _ _ (and_from _ _ (le-leb 0xE000 c l.0) (lt-ltb c 0x110000 l.1))) s.0)
-    (scalars_test cs s.1)
-  where
-    or_right : (x y : Bool) → y ≡ true → (x || y) ≡ true
-    or_right true y e = refl
-    or_right false y e = e
-
-test_scalars : (cs : List ℕ) → are_scalars cs ≡ true → Scalars cs
-test_scalars [] e = tt
-test_scalars (c ∷ cs) e =
-    let p = and_parts _ _ e in
-    (⊎_elim (λ l. inl (ltb-true c 0xD800 l)) (λ l. let q = and_parts _ _ l in inr (leb-true 0xE000 c q.0, ltb-true c 0x110000 q.1)) (or_cases _ _ p.0), test_scalars cs p.1)
-
-formed_test : (bs : List ℕ) → WellFormed bs → is_utf8 bs ≡ true
-formed_test bs w =
-    let e = encoded_once bs w.0 w.1 in
-    let s = subst Scalars e w.1.0 in
-    let q = subst (λ cs. utf8s cs ≡ bs) e w.1.1 in
-    and_from _ _ (scalars_test (chars bs) s) (subst (λ xs. same_numbers (utf8s (chars bs)) xs ≡ true) q (same_self (utf8s (chars bs))))
-
-test_formed : (bs : List ℕ) → is_utf8 bs ≡ true → WellFormed bs
-test_formed bs e = let p = and_parts _ _ e in (chars bs, (test_scalars (chars bs) p.0, same_is (utf8s (chars bs)) bs p.1))
+use Rattle.command_list.specs.Refusals.{Why, why_of, fault, fault_at, unless, before}
+use Rattle.command_list.proofs.Refusing.{fault_by}
 
 -- ---- the label's questions
 
-pub label_refused : (bs : List ℕ) (f : Fault) (x : Option Fault) → Refused bs f
-    → before (unless (label_short (Some bs)) (fault number.Range 0)) (before (unless (label_text (Some bs)) (fault number.Text 0)) x) ≡ Some f
+pub label_refused : (bs : List ℕ) (f : Fault) (x : Option Why) → Refused bs f
+    → before (unless (label_short (Some bs)) (fault 1 0)) (before (unless (label_text (Some bs)) (fault 2 0)) x) ≡ Some (why_of f)
 label_refused bs f x r = ⊎_elim
-    (λ k. ap (λ t. before (unless t (fault number.Range 0)) (before (unless (is_utf8 bs) (fault number.Text 0)) x)) (lt-leb (length bs) 256 k.1) ∙ ap Some (sym (fault_by f number.Range 0 k.0)))
-    (λ k. ap (λ t. before (unless t (fault number.Range 0)) (before (unless (is_utf8 bs) (fault number.Text 0)) x)) (le-leb (length bs) 256 k.1)
-    ∙ ap (λ t. before (unless t (fault number.Text 0)) x) (not_true (is_utf8 bs) (λ e. k.2 (test_formed bs e))) ∙ ap Some (sym (fault_by f number.Text 0 k.0))) r
+    (λ k. ap (λ t. before (unless t (fault 1 0)) (before (unless (is_utf8 bs) (fault 2 0)) x)) (lt-leb (length bs) 256 k.1) ∙ ap Some (sym (fault_by f 1 0 k.0)))
+    (λ k. ap (λ t. before (unless t (fault 1 0)) (before (unless (is_utf8 bs) (fault 2 0)) x)) (le-leb (length bs) 256 k.1)
+    ∙ ap (λ t. before (unless t (fault 2 0)) x) (not_true (is_utf8 bs) (λ e. k.2 (test_formed bs e))) ∙ ap Some (sym (fault_by f 2 0 k.0))) r
   where
     not_true : (t : Bool) → (t ≡ true → ⊥) → t ≡ false
     not_true true h = absurd (h refl)
     not_true false h = refl
 
-pub label_taken : (bs us : List ℕ) (x : Option Fault) → Labelled bs us
-    → before (unless (label_short (Some bs)) (fault number.Range 0)) (before (unless (label_text (Some bs)) (fault number.Text 0)) x) ≡ x
+pub label_taken : (bs us : List ℕ) (x : Option Why) → Labelled bs us
+    → before (unless (label_short (Some bs)) (fault 1 0)) (before (unless (label_text (Some bs)) (fault 2 0)) x) ≡ x
 label_taken bs us x l =
-    ap (λ t. before (unless t (fault number.Range 0)) (before (unless (is_utf8 bs) (fault number.Text 0)) x)) (le-leb (length bs) 256 l.short)
-    ∙ ap (λ t. before (unless t (fault number.Text 0)) x) (formed_test bs l.formed)
+    ap (λ t. before (unless t (fault 1 0)) (before (unless (is_utf8 bs) (fault 2 0)) x)) (le-leb (length bs) 256 l.short)
+    ∙ ap (λ t. before (unless t (fault 2 0)) x) (formed_test bs l.formed)
 
 -- the event of a label's units is the label's record
 pub label_event : (bs us : List ℕ) → 0 < length us → us ≡ label_units bs → event_records us ≡ label_records (Some bs)
@@ -85,26 +46,26 @@ extent_test n e = and_from _ _ (le-leb 1 n e.0) (le-leb n 16384 e.1)
 
 -- the questions before the label's
 pub render_asks : (null : ℕ) (bs : List ℕ) (w h : ℕ) (os : List (Option ColorAttachment)) → length os ≤ 8 → InExtent w → InExtent h
-    → asks_opening null (render_pass (Some bs) w h os) ≡ before (unless (label_short (Some bs)) (fault number.Range 0)) (before (unless (label_text (Some bs)) (fault number.Text 0)) (fault_at number.Absent (no_target 0 null os)))
+    → asks_opening null (render_pass (Some bs) w h os) ≡ before (unless (label_short (Some bs)) (fault 1 0)) (before (unless (label_text (Some bs)) (fault 2 0)) (fault_at 3 (no_target 0 null os)))
 render_asks null bs w h os few wide high =
-    let x = before (unless (label_short (Some bs)) (fault number.Range 0)) (before (unless (label_text (Some bs)) (fault number.Text 0)) (fault_at number.Absent (no_target 0 null os))) in
-    ap (λ t. before (unless t (fault number.Range 8)) (before (unless (is_extent w && is_extent h) (fault number.Range 0)) x)) (le-leb (length os) 8 few)
-    ∙ ap (λ t. before (unless t (fault number.Range 0)) x) (and_from _ _ (extent_test w wide) (extent_test h high))
+    let x = before (unless (label_short (Some bs)) (fault 1 0)) (before (unless (label_text (Some bs)) (fault 2 0)) (fault_at 3 (no_target 0 null os))) in
+    ap (λ t. before (unless t (fault 1 8)) (before (unless (is_extent w && is_extent h) (fault 1 0)) x)) (le-leb (length os) 8 few)
+    ∙ ap (λ t. before (unless t (fault 1 0)) x) (and_from _ _ (extent_test w wide) (extent_test h high))
 
-before_last : (o : Option Fault) → before o None ≡ o
+before_last : (o : Option Why) → before o None ≡ o
 before_last None = refl
 before_last (Some f) = refl
 
 -- the questions of a compute pass's label are these two alone
-label_alone : (null : ℕ) (bs : List ℕ) → asks_opening null (compute_pass (Some bs)) ≡ before (unless (label_short (Some bs)) (fault number.Range 0)) (before (unless (label_text (Some bs)) (fault number.Text 0)) None)
-label_alone null bs = ap (before (unless (label_short (Some bs)) (fault number.Range 0))) (sym (before_last (unless (label_text (Some bs)) (fault number.Text 0))))
+label_alone : (null : ℕ) (bs : List ℕ) → asks_opening null (compute_pass (Some bs)) ≡ before (unless (label_short (Some bs)) (fault 1 0)) (before (unless (label_text (Some bs)) (fault 2 0)) None)
+label_alone null bs = ap (before (unless (label_short (Some bs)) (fault 1 0))) (sym (before_last (unless (label_text (Some bs)) (fault 2 0))))
 
 labelled_some : (bs us : List ℕ) → Labelled bs us → 0 < length us
 labelled_some bs us l = omega (arith, ap length l.units, length-append (utf16s (chars bs)) (0 ∷ []))
 
 -- ---- openings with a label
 
-offered_as : (p q : Option Fault) (xs ys : List Command) (m : Meaning) (r : Result Unit Fault) (n : Meaning) → p ≡ q → xs ≡ ys → Offered p xs m r n → Offered q ys m r n
+offered_as : (p q : Option Why) (xs ys : List Command) (m : Meaning) (r : Result Unit Fault) (n : Meaning) → p ≡ q → xs ≡ ys → Offered p xs m r n → Offered q ys m r n
 offered_as p q xs ys m r n e f o = subst (λ x. Offered x ys m r n) e (subst (λ x. Offered p x m r n) f o)
 
 module _ (bs : List ℕ) (o : Option (List ℕ)) (is : o ≡ Some bs) (m : Meaning) (r : Result Unit Fault) (n : Meaning) where
@@ -115,7 +76,7 @@ module _ (bs : List ℕ) (o : Option (List ℕ)) (is : o ≡ Some bs) (m : Meani
         (handled_asked _ _ tt tt m tt n f (ap (λ x. asks_opening null (render_pass x w h os)) is ∙ render_asks null bs w h os few wide high ∙ label_refused bs f _ no') refl s)
 
     pub render_yes : (us : List ℕ) → Labelled bs us → (v : List ℕ) (x y : ℕ) → v ≡ us → x ≡ w → y ≡ h
-        → Offered (fault_at number.Absent (no_target 0 null os)) (event_records v ++ frame_records null x y os) m r n
+        → Offered (fault_at 3 (no_target 0 null os)) (event_records v ++ frame_records null x y os) m r n
         → Offered (asks_opening null (render_pass o w h os)) (opening_records null (render_pass o w h os)) m r n
     render_yes us l v x y a b c =
         offered_as _ _ _ _ m r n

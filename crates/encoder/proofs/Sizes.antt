@@ -9,6 +9,7 @@ use Rattle.encoder.specs.declared.attachment.ColorAttachment.{ColorAttachment}
 use Rattle.encoder.specs.Opening.{target_of, clear_of, clear_records}
 use Rattle.encoder.specs.Putting.{Put, Offered, event_records, CanBegin, frame_records}
 use Rattle.command_list.specs.declared.fault.Fault.{Fault}
+use Rattle.command_list.specs.Refusals.{Why}
 use Rattle.bindings.specs.Extents.{single}
 use Rattle.encoder.proofs.Handling.{handled_taken}
 use Rattle.list_writer.proofs.Rows.{total_entries}
@@ -75,6 +76,6 @@ render_recorded us null w h os m₀ m₁ m₂ m₃ m₄ m₅ m₆ event heaps ta
     recorded_then m₀ m₁ m₆ (event_records us) (frame_records null w h os) event (recorded_then m₁ m₂ m₆ (SetDescriptorHeaps true ∷ []) _ heaps bound)
 
 -- what was put last ends a call that was asked and has room
-pub offered_put : (asked : Option Fault) (all cs : List Command) (m n k : Meaning) (r : Result Unit Fault) → asked ≡ None → sizes all ≤ m.space → (Recorded n cs k → Recorded m all k) → Put n cs r k → Offered asked all m r k
+pub offered_put : (asked : Option Why) (all cs : List Command) (m n k : Meaning) (r : Result Unit Fault) → asked ≡ None → sizes all ≤ m.space → (Recorded n cs k → Recorded m all k) → Put n cs r k → Offered asked all m r k
 offered_put asked all cs m n k (Ok u) q h f p = handled_taken asked all tt tt m tt k q h refl (f p)
 offered_put asked all cs m n k (Err e) q h f p = absurd p

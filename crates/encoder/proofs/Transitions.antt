@@ -3,29 +3,27 @@ use Rattle.std.proofs.Common.{◌≡◌, ℕ, ◌+◌, Bool, true, false, ◌||�
 use Rattle.std.proofs.lemmas.Bool.{and_from, and_parts, le-leb, leb-true, eq-eqb, ne_eqb, cases_eq}
 use Rattle.command_list.specs.declared.command.Barrier.{Barrier}
 use Rattle.command_list.specs.declared.fault.Fault.{Fault}
-use Rattle.command_list.specs.declared.fault.Number.TheVariants as number
 use Rattle.command_list.specs.Seen.{number_of}
 use Rattle.device.specs.Meaning.{Meaning}
-use Rattle.passes.proofs.Questions.{some≢none}
-use Rattle.resources.specs.Barriers.{Change, barriers_of, first_from, in_range, present, refused_at, or_else, verdict, answered}
+use Rattle.resources.specs.Barriers.{Change, barriers_of, in_range, present, verdict}
 use Rattle.resources.specs.Batches.{Takes, Batched, Transitioned, transition_records}
-use Rattle.passes.specs.Calls.{fault, fault_at, unless, before}
 use Rattle.encoder.specs.Opening.{transition, scratch_takes, asks_quiet, quiet_records}
 use Rattle.encoder.specs.Handled.{Handled}
-use Rattle.encoder.proofs.Faults.{fault_by}
 use Rattle.encoder.proofs.Handling.{handled_asked, handled_full, handled_taken}
+use Rattle.command_list.specs.Refusals.{Why, why_of, first_from, fault_at, before, fault_of, fault, unless}
+use Rattle.command_list.proofs.Refusing.{some≢none, fault_by}
 
 -- every change is in range and has its resource
-clear_by : (o q : Option ℕ) (x : Option Fault) → or_else (refused_at 1 o) (refused_at 3 q) ≡ None → before (fault_at number.Range o) (before (fault_at number.Absent q) x) ≡ x
+clear_by : (o q : Option ℕ) (x : Option Why) → before (fault_at 1 o) (fault_at 3 q) ≡ None → before (fault_at 1 o) (before (fault_at 3 q) x) ≡ x
 clear_by None None x e = refl
-clear_by None (Some j) x e = absurd (some≢none (3, j) e)
-clear_by (Some i) q x e = absurd (some≢none (1, i) e)
+clear_by None (Some j) x e = absurd (some≢none (fault 3 j) e)
+clear_by (Some i) q x e = absurd (some≢none (fault 1 i) e)
 
 -- one is not
-first_by : (o q : Option ℕ) (x : Option Fault) (f : Fault) → Some (number_of f.number, f.place) ≡ or_else (refused_at 1 o) (refused_at 3 q) → before (fault_at number.Range o) (before (fault_at number.Absent q) x) ≡ Some f
-first_by None None x f e = absurd (some≢none _ e)
-first_by None (Some j) x f e = let p : ◌≡◌ {A = ℕ × ℕ} (number_of f.number, f.place) (3, j) = cc in ap Some (sym (fault_by f number.Absent j (ap (λ w. w.0) p, ap (λ w. w.1) p)))
-first_by (Some i) q x f e = let p : ◌≡◌ {A = ℕ × ℕ} (number_of f.number, f.place) (1, i) = cc in ap Some (sym (fault_by f number.Range i (ap (λ w. w.0) p, ap (λ w. w.1) p)))
+first_by : (o q : Option ℕ) (x : Option Why) (w : Why) → Some w ≡ before (fault_at 1 o) (fault_at 3 q) → before (fault_at 1 o) (before (fault_at 3 q) x) ≡ Some w
+first_by None None x w e = absurd (some≢none w e)
+first_by None (Some j) x w e = sym e
+first_by (Some i) q x w e = sym e
 
 -- a scratch takes the barriers, as a test
 takes_test : (len fill : ℕ) (es : List Barrier) → Takes len fill es → scratch_takes len fill (length es) ≡ true
@@ -48,20 +46,20 @@ module _ {X : Type 0} (m n : Meaning) (len fill : ℕ) (cs : List Change) (a : X
   batched : (r : Result Unit Fault) → verdict cs ≡ None → Batched m len fill (barriers_of cs) r n → Handled (asks_quiet (transition cs len fill)) (transition_records (barriers_of cs)) a a m r a n
   batched r v b = by r b
     where
-      clear : (t : Bool) → scratch_takes len fill (length (barriers_of cs)) ≡ t → asks_quiet (transition cs len fill) ≡ unless t (fault number.Scratch 0)
-      clear t e = clear_by (first_from 0 in_range cs) (first_from 0 present cs) _ v ∙ ap (λ x. unless x (fault number.Scratch 0)) e
+      clear : (t : Bool) → scratch_takes len fill (length (barriers_of cs)) ≡ t → asks_quiet (transition cs len fill) ≡ unless t (fault 9 0)
+      clear t e = clear_by (first_from 0 in_range cs) (first_from 0 present cs) _ v ∙ ap (λ x. unless x (fault 9 0)) e
 
       by : (r : Result Unit Fault) → Batched m len fill (barriers_of cs) r n → Handled (asks_quiet (transition cs len fill)) (transition_records (barriers_of cs)) a a m r a n
       by (Ok u) k = handled_taken _ _ a a m a n (clear true (takes_test len fill (barriers_of cs) k.0)) k.1 refl k.2
       by (Err f) k =
           ⊎_elim
-          (λ q. handled_asked _ _ a a m a n f (clear false (no_test (scratch_takes len fill (length (barriers_of cs))) (λ e. q.1 (test_takes len fill (barriers_of cs) e))) ∙ ap Some (sym (fault_by f number.Scratch 0 q.0))) refl k.0)
-          (λ q. handled_full _ _ a a m a n f (fault_by f number.Full 0 q.0) (clear true (takes_test len fill (barriers_of cs) q.1)) q.2 refl k.0)
+          (λ q. handled_asked _ _ a a m a n f (clear false (no_test (scratch_takes len fill (length (barriers_of cs))) (λ e. q.1 (test_takes len fill (barriers_of cs) e))) ∙ ap Some (sym (fault_by f 9 0 q.0))) refl k.0)
+          (λ q. handled_full _ _ a a m a n f (fault_by f 10 0 q.0) (clear true (takes_test len fill (barriers_of cs) q.1)) q.2 refl k.0)
           k.1
 
   pub transitioned : (r : Result Unit Fault) → Transitioned m len fill cs r n → Handled (asks_quiet (transition cs len fill)) (quiet_records (transition cs len fill)) a a m r a n
   transitioned r t = ⊎_elim (λ k. batched r k.0 k.1) (λ k. by r k.0 k.1 k.2) t
     where
-      by : (r : Result Unit Fault) → (verdict cs ≡ None → ⊥) → answered r ≡ verdict cs → n ≡ m → Handled (asks_quiet (transition cs len fill)) (quiet_records (transition cs len fill)) a a m r a n
+      by : (r : Result Unit Fault) → (verdict cs ≡ None → ⊥) → fault_of r ≡ verdict cs → n ≡ m → Handled (asks_quiet (transition cs len fill)) (quiet_records (transition cs len fill)) a a m r a n
       by (Ok u) v e s = absurd (v (sym e))
-      by (Err f) v e s = handled_asked _ _ a a m a n f (first_by (first_from 0 in_range cs) (first_from 0 present cs) _ f e) refl s
+      by (Err f) v e s = handled_asked _ _ a a m a n f (first_by (first_from 0 in_range cs) (first_from 0 present cs) _ (why_of f) e) refl s

@@ -6,7 +6,7 @@ use Rattle.std.proofs.lemmas.Nat.{one_shl}
 use Rattle.command_list.specs.Commands.{Command}
 use Rattle.device.specs.Meaning.{sizes}
 use Rattle.device.proofs.Runs.{sizes_append}
-use Rattle.layouts.specs.Bits.{bit}
+use Rattle.command_list.specs.Bits.{bit}
 use Rattle.layouts.proofs.Masks.{trailing_lowest, out_here, out_other, out_less, bit_none}
 use Rattle.device.specs.Writes.{gathered}
 
@@ -63,7 +63,7 @@ pub record Turn (m : ℕ) : Type 0 where
 
 pub turn : (m : ℕ) → (m ≡ 0 → ⊥) → m < 2 ^ 64 → Turn m
 turn m n h =
-    let low = trailing_lowest 64 m (omega arith) h in
+    let low = trailing_lowest m (omega arith) h in
     let i = count_trailing_zeros 64 m in
     let shl : 2 ^ i ≡ 1 * 2 ^ i % 2 ^ 64 = sym (one_shl i 64 low.0) in
     let out = out_here m i low.1.here in

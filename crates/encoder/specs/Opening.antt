@@ -2,17 +2,15 @@
 use Rattle.std.specs.Prelude.{ℕ, ◌+◌, ◌/◌, ◌%◌, ◌^◌, Bool, true, false, cond, ◌&&◌, ◌||◌, List, [], ◌∷◌, ◌++◌, map, length, Some, None, Option, ◌==◌, nat_le, nat_lt, slice_index}
 use Rattle.command_list.specs.declared.command.Half.{Half}
 use Rattle.command_list.specs.declared.command.Half.TheVariants.{Graphics, Compute}
-use Rattle.command_list.specs.declared.fault.Fault.{Fault}
-use Rattle.command_list.specs.declared.fault.Number.TheVariants as number
 use Rattle.command_list.specs.Commands.{Command, BeginEvent, EndEvent, SetDescriptorHeaps, OMSetRenderTargets, ClearRenderTargetView, RSSetViewports, RSSetScissorRects}
-use Rattle.std.specs.Str.{chars}
-use Rattle.labels.specs.Unicode.{utf8s}
+use Rattle.labels.specs.Utf8.{is_utf8}
 use Rattle.labels.specs.Labels.{label_units}
-use Rattle.resources.specs.Barriers.{Change, barriers_of, in_range, present, first_from}
+use Rattle.resources.specs.Barriers.{Change, barriers_of, in_range, present}
 use Rattle.resources.specs.Batches.{transition_records}
 use Rattle.bindings.specs.Extents.{single}
-use Rattle.passes.specs.Calls.{fault, unless, before, fault_at, is_handle}
+use Rattle.passes.specs.Calls.{is_handle}
 use Rattle.encoder.specs.declared.attachment.ColorAttachment.{ColorAttachment}
+use Rattle.command_list.specs.Refusals.{Why, first_from, fault, unless, before, fault_at}
 
 -- the opening of a pass: a label's bytes, if it has one; for a render pass its extent and its attachments, of which some may be left out
 pub data Opening : Type 0 where
@@ -65,21 +63,6 @@ ending_records labelled = SetDescriptorHeaps false ∷ cond labelled (EndEvent �
 
 -- ---- what an opening asks
 
--- the same numbers in the same order
-abbrev pub same_numbers : List ℕ → List ℕ → Bool
-same_numbers [] [] = true
-same_numbers [] (y ∷ ys) = false
-same_numbers (x ∷ xs) [] = false
-same_numbers (x ∷ xs) (y ∷ ys) = x == y && same_numbers xs ys
-
-abbrev pub are_scalars : List ℕ → Bool
-are_scalars [] = true
-are_scalars (c ∷ cs) = (nat_lt c 0xD800 || (nat_le 0xE000 c && nat_lt c 0x110000)) && are_scalars cs
-
--- bytes are UTF-8: they decode to scalar values whose UTF-8 they are
-abbrev pub is_utf8 : List ℕ → Bool
-is_utf8 bs = are_scalars (chars bs) && same_numbers (utf8s (chars bs)) bs
-
 abbrev pub label_short : Option (List ℕ) → Bool
 label_short None = true
 label_short (Some bs) = nat_le (length bs) 256
@@ -93,17 +76,16 @@ is_extent n = nat_le 1 n && nat_le n 16384
 
 -- the index of the first attachment whose target, or the null target in its place, is none; counted from i on
 abbrev pub no_target : ℕ → ℕ → List (Option ColorAttachment) → Option ℕ
-no_target i null [] = None
-no_target i null (o ∷ os) = cond (is_handle (target_of null o)) (no_target (i + 1) null os) (Some i)
+no_target i null os = first_from i (λ o. is_handle (target_of null o)) os
 
-abbrev pub asks_opening : ℕ → Opening → Option Fault
+abbrev pub asks_opening : ℕ → Opening → Option Why
 asks_opening null (render_pass label w h targets) =
-    before (unless (nat_le (length targets) 8) (fault number.Range 8))
-    (before (unless (is_extent w && is_extent h) (fault number.Range 0))
-    (before (unless (label_short label) (fault number.Range 0))
-    (before (unless (label_text label) (fault number.Text 0))
-    (fault_at number.Absent (no_target 0 null targets)))))
-asks_opening null (compute_pass label) = before (unless (label_short label) (fault number.Range 0)) (unless (label_text label) (fault number.Text 0))
+    before (unless (nat_le (length targets) 8) (fault 1 8))
+    (before (unless (is_extent w && is_extent h) (fault 1 0))
+    (before (unless (label_short label) (fault 1 0))
+    (before (unless (label_text label) (fault 2 0))
+    (fault_at 3 (no_target 0 null targets)))))
+asks_opening null (compute_pass label) = before (unless (label_short label) (fault 1 0)) (unless (label_text label) (fault 2 0))
 
 -- ---- quiet calls
 
@@ -125,10 +107,10 @@ quiet_records (set_scissor_rect x y w h) = RSSetScissorRects x y (x + w) (y + h)
 abbrev pub scratch_takes : ℕ → ℕ → ℕ → Bool
 scratch_takes len fill made = nat_le len 2048 && (made == 0 || nat_le (fill + made) len)
 
-abbrev pub asks_quiet : QuietCall → Option Fault
+abbrev pub asks_quiet : QuietCall → Option Why
 asks_quiet (transition cs len fill) =
-    before (fault_at number.Range (first_from 0 in_range cs))
-    (before (fault_at number.Absent (first_from 0 present cs))
-    (unless (scratch_takes len fill (length (barriers_of cs))) (fault number.Scratch 0)))
+    before (fault_at 1 (first_from 0 in_range cs))
+    (before (fault_at 3 (first_from 0 present cs))
+    (unless (scratch_takes len fill (length (barriers_of cs))) (fault 9 0)))
 asks_quiet (set_viewport x y w h low high) = None
-asks_quiet (set_scissor_rect x y w h) = unless (nat_lt (x + w) (2 ^ 31) && nat_lt (y + h) (2 ^ 31)) (fault number.Extent 0)
+asks_quiet (set_scissor_rect x y w h) = unless (nat_lt (x + w) (2 ^ 31) && nat_lt (y + h) (2 ^ 31)) (fault 5 0)

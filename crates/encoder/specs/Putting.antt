@@ -4,6 +4,7 @@ use Rattle.command_list.specs.declared.command.Half.{Half}
 use Rattle.command_list.specs.declared.command.Half.TheVariants.{Graphics, Compute}
 use Rattle.command_list.specs.declared.fault.Fault.{Fault}
 use Rattle.command_list.specs.Commands.{Command, BeginEvent, SetDescriptorHeaps, OMSetRenderTargets, RSSetViewports, RSSetScissorRects, readable}
+use Rattle.command_list.specs.Refusals.{Why}
 use Rattle.bindings.specs.Extents.{single}
 use Rattle.encoder.specs.declared.attachment.ColorAttachment.{ColorAttachment}
 use Rattle.encoder.specs.Handled.{Handled}
@@ -37,5 +38,5 @@ frame_records null w h targets =
     ∷ (clear_records targets ++ (RSSetViewports (single 0) (single 0) (single w) (single h) (single 0) (single 1) ∷ RSSetScissorRects 0 0 w h ∷ []))
 
 -- a call that has no state of its own
-abbrev pub Offered : Option Fault → List Command → Meaning → Result Unit Fault → Meaning → Type 0
+abbrev pub Offered : Option Why → List Command → Meaning → Result Unit Fault → Meaning → Type 0
 Offered asked records m r n = Handled {X = Unit} asked records tt tt m r tt n

@@ -2,14 +2,14 @@
 use Rattle.std.specs.Prelude.{◌≡◌, ℕ, Bool, true, false, cond, List, [], Some, None, Option, nat_le}
 use Rattle.command_list.specs.declared.command.Half.{Half}
 use Rattle.command_list.specs.declared.command.Half.TheVariants.{Graphics, Compute}
-use Rattle.command_list.specs.declared.fault.Fault.{Fault}
-use Rattle.command_list.specs.declared.fault.Number.TheVariants as number
 use Rattle.command_list.specs.Commands.{Command}
 use Rattle.device.specs.Devices.{start}
 use Rattle.device.specs.Meaning.{Meaning, Recorded, sizes, cleared}
 use Rattle.passes.specs.Account.{Account, opened}
-use Rattle.passes.specs.Calls.{SetCall, set_bind_group, set_immediates, set_render_pipeline, set_compute_pipeline, set_vertex_buffer, DrawCall, draw, draw_indirect, dispatch, dispatch_indirect, after_set, set_records, asks_set, after_draw, draw_records, asks_draw, fault}
+use Rattle.passes.specs.Calls.{SetCall, set_bind_group, set_immediates, set_render_pipeline, set_compute_pipeline, set_vertex_buffer, DrawCall, draw, draw_indirect, dispatch, dispatch_indirect, after_set, set_records, asks_set, after_draw, draw_records, asks_draw}
+use Rattle.encoder.specs.declared.state.ListState.{ListState}
 use Rattle.encoder.specs.Opening.{Opening, half_of, label_of, is_labelled, opening_records, ending_records, asks_opening, QuietCall, transition, set_viewport, set_scissor_rect, quiet_records, asks_quiet}
+use Rattle.command_list.specs.Refusals.{Why, fault}
 
 -- the calls, by their kinds
 pub data Call : Type 0 where
@@ -36,68 +36,46 @@ abbrev pub pass_sets : Half → SetCall → Bool
 pass_sets h (set_bind_group l i t bs os) = true
 pass_sets h (set_immediates l at ws) = true
 pass_sets Graphics (set_render_pipeline p) = true
-pass_sets Compute (set_render_pipeline p) = false
-pass_sets Graphics (set_compute_pipeline p) = false
-pass_sets Compute (set_compute_pipeline p) = true
 pass_sets Graphics (set_vertex_buffer i x) = true
-pass_sets Compute (set_vertex_buffer i x) = false
+pass_sets Compute (set_compute_pipeline p) = true
+pass_sets _ _ = false
 
 abbrev pub pass_draws : Half → DrawCall → Bool
 pass_draws Graphics (draw first count instance instances) = true
-pass_draws Compute (draw first count instance instances) = false
 pass_draws Graphics (draw_indirect buffer offset count) = true
-pass_draws Compute (draw_indirect buffer offset count) = false
-pass_draws Graphics (dispatch x y z) = false
 pass_draws Compute (dispatch x y z) = true
-pass_draws Graphics (dispatch_indirect buffer offset) = false
 pass_draws Compute (dispatch_indirect buffer offset) = true
+pass_draws _ _ = false
 
 abbrev pub pass_quiets : Half → QuietCall → Bool
-pass_quiets Graphics (transition cs len fill) = false
-pass_quiets Compute (transition cs len fill) = true
 pass_quiets Graphics (set_viewport x y w h low high) = true
-pass_quiets Compute (set_viewport x y w h low high) = false
 pass_quiets Graphics (set_scissor_rect x y w h) = true
-pass_quiets Compute (set_scissor_rect x y w h) = false
+pass_quiets Compute (transition cs len fill) = true
+pass_quiets _ _ = false
 
 -- which quiet calls a list has outside of passes
 abbrev pub list_quiets : QuietCall → Bool
 list_quiets (transition cs len fill) = true
-list_quiets (set_viewport x y w h low high) = false
-list_quiets (set_scissor_rect x y w h) = false
+list_quiets _ = false
 
 abbrev pub same_half : Half → Half → Bool
 same_half Graphics Graphics = true
-same_half Graphics Compute = false
-same_half Compute Graphics = false
 same_half Compute Compute = true
+same_half _ _ = false
 
 -- which calls each stage offers
 abbrev pub offers : Stage → Call → Bool
 offers idle begin_encoding = true
-offers idle end_encoding = false
-offers idle discard_encoding = false
-offers idle (opening o) = false
-offers idle (ending h) = false
-offers idle (quiet q) = false
-offers idle (set c) = false
-offers idle (drawing c) = false
-offers recording begin_encoding = false
 offers recording end_encoding = true
 offers recording discard_encoding = true
 offers recording (opening o) = true
-offers recording (ending h) = false
 offers recording (quiet q) = list_quiets q
-offers recording (set c) = false
-offers recording (drawing c) = false
-offers (in_pass a) begin_encoding = false
-offers (in_pass a) end_encoding = false
 offers (in_pass a) discard_encoding = true
-offers (in_pass a) (opening o) = false
 offers (in_pass a) (ending h) = same_half h a.half
 offers (in_pass a) (quiet q) = pass_quiets a.half q
 offers (in_pass a) (set c) = pass_sets a.half c
 offers (in_pass a) (drawing c) = pass_draws a.half c
+offers _ _ = false
 
 -- the stage after an accepted call
 abbrev pub next : Call → Stage → Stage
@@ -111,74 +89,63 @@ next (set c) s = in_pass (after_set c (account_of s))
 next (drawing c) s = in_pass (after_draw c (account_of s))
 
 -- the commands that an accepted call records
-abbrev pub records : ℕ → Call → Account → List Command
-records null begin_encoding a = []
-records null end_encoding a = []
-records null discard_encoding a = []
-records null (opening o) a = opening_records null o
-records null (ending h) a = ending_records a.labelled
-records null (quiet q) a = quiet_records q
-records null (set c) a = set_records c a
-records null (drawing c) a = draw_records c a
+abbrev pub records : ListState → Call → Account → List Command
+records own (opening o) a = opening_records own.null_target o
+records own (ending h) a = ending_records a.labelled
+records own (quiet q) a = quiet_records q
+records own (set c) a = set_records c a
+records own (drawing c) a = draw_records c a
+records own _ a = []
 
--- the questions of a call but for the space: the first no
-abbrev pub asks : ℕ → Call → Account → Option Fault
-asks null begin_encoding a = None
-asks null end_encoding a = None
-asks null discard_encoding a = None
-asks null (opening o) a = asks_opening null o
-asks null (ending h) a = None
-asks null (quiet q) a = asks_quiet q
-asks null (set c) a = asks_set c a.roots.layout
-asks null (drawing c) a = asks_draw c a
+-- the checks of a call but for the space: the first failure
+abbrev pub asks : ListState → Call → Account → Option Why
+asks own (opening o) a = asks_opening own.null_target o
+asks own (quiet q) a = asks_quiet q
+asks own (set c) a = asks_set c a.roots.layout
+asks own (drawing c) a = asks_draw c a
+asks own _ a = None
 
 -- a recorder that was started anew
 abbrev pub anew : Meaning → Meaning
-anew m = record { device = start; space = m.made; made = m.made; shown = cleared m.shown }
+anew m = record m { device = start; space = m.made; shown = cleared m.shown }
 
 -- what the recorder starts a call from: the beginning of a list starts it anew
 abbrev pub start_of : Call → Meaning → Meaning
 start_of begin_encoding m = anew m
-start_of end_encoding m = m
-start_of discard_encoding m = m
-start_of (opening o) m = m
-start_of (ending h) m = m
-start_of (quiet q) m = m
-start_of (set c) m = m
-start_of (drawing c) m = m
+start_of _ m = m
 
 -- what a call is answered
 pub data Answer : Type 0 where
   taken : Answer
-  refused : Fault → Answer
+  refused : Why → Answer
   not_offered : Answer
 
 abbrev pub is_taken : Answer → Bool
 is_taken taken = true
-is_taken (refused f) = false
-is_taken not_offered = false
+is_taken _ = false
 
--- the first no, and last whether the whole call fits the space
-abbrev pub judged : Option Fault → Bool → Answer
-judged (Some f) fits = refused f
-judged None fits = cond fits taken (refused (fault number.Full 0))
+-- the first failure, and last whether the whole call fits the space
+abbrev pub judged : Option Why → Bool → Answer
+judged (Some w) fits = refused w
+judged None fits = cond fits taken (refused (fault 10 0))
 
--- an encoder with its null target and its recorder
+-- an encoder: its stage, what its list has beside the recorder, and what the recorder means
 pub record Scene : Type 0 where
   pub stage : Stage
-  pub null : ℕ
+  pub own : ListState
   pub meaning : Meaning
 
 unfoldable pub verdict : Scene → Call → Answer
 verdict s c =
     cond (offers s.stage c)
-    (judged (asks s.null c (account_of s.stage)) (nat_le (sizes (records s.null c (account_of s.stage))) (start_of c s.meaning).space))
+    (judged (asks s.own c (account_of s.stage))
+        (nat_le (sizes (records s.own c (account_of s.stage))) (start_of c s.meaning).space))
     not_offered
 
 -- what a call does, from s to t, with its answer
 pub record Does (s : Scene) (c : Call) (a : Answer) (t : Scene) : Type 0 where
   pub answer : a ≡ verdict s c
   pub refused : is_taken a ≡ false → t ≡ s
-  pub null : t.null ≡ s.null
+  pub own : t.own ≡ s.own
   pub stage : is_taken a ≡ true → t.stage ≡ next c s.stage
-  pub recorded : is_taken a ≡ true → Recorded (start_of c s.meaning) (records s.null c (account_of s.stage)) t.meaning
+  pub recorded : is_taken a ≡ true → Recorded (start_of c s.meaning) (records s.own c (account_of s.stage)) t.meaning

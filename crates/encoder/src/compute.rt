@@ -8,7 +8,8 @@ ghost use Rattle.encoder.specs.Opening.{transition as transition_call};
 ghost use Rattle.passes.specs.Calls.{set_bind_group, set_immediates, set_compute_pipeline, dispatch, dispatch_indirect};
 ghost use Rattle.encoder.specs.Scenes.{discard_encoding, ending, quiet, set, drawing, taken, refused, Does};
 ghost use Rattle.encoder.specs.Handled.{answered};
-ghost use Rattle.encoder.specs.Phases.{idle_scene, list_scene, pass_scene};
+ghost use Rattle.command_list.specs.Refusals.{why_of};
+ghost use Rattle.encoder.specs.Phases.{idle_scene, list_scene, compute_scene};
 
 use crate::draw::{INDIRECT_BYTES, record_draw};
 use crate::opening::record_ending;
@@ -36,7 +37,7 @@ impl<R: Recorder> ComputePass<R> {
         group: BindGroup<'_>,
         dynamic_offsets: &[u32],
     ) -> Result<(), Fault>
-        ensures { Does (pass_scene self.old.pass self.old.null_target (R.meaning self.old.recorder)) (set (set_bind_group layout.now index group.entry.table group.entry.dynamic_buffers.now dynamic_offsets.now)) (answered result) (pass_scene self.new.pass self.new.null_target (R.meaning self.new.recorder)) }
+        ensures { Does (compute_scene R.meaning self.old) (set (set_bind_group layout.now index group.entry.table group.entry.dynamic_buffers.now dynamic_offsets.now)) (answered result) (compute_scene R.meaning self.new) }
     {
         self.pass
             .set_bind_group(layout, index, group, dynamic_offsets)
@@ -48,19 +49,19 @@ impl<R: Recorder> ComputePass<R> {
         offset_bytes: u32,
         words: &[u32],
     ) -> Result<(), Fault>
-        ensures { Does (pass_scene self.old.pass self.old.null_target (R.meaning self.old.recorder)) (set (set_immediates layout.now offset_bytes words.now)) (answered result) (pass_scene self.new.pass self.new.null_target (R.meaning self.new.recorder)) }
+        ensures { Does (compute_scene R.meaning self.old) (set (set_immediates layout.now offset_bytes words.now)) (answered result) (compute_scene R.meaning self.new) }
     {
         self.pass.set_immediates(layout, offset_bytes, words)
     }
 
     pub fn set_compute_pipeline(&mut self, pipeline: &ComputePipeline) -> Result<(), Fault>
-        ensures { Does (pass_scene self.old.pass self.old.null_target (R.meaning self.old.recorder)) (set (set_compute_pipeline pipeline.now)) (answered result) (pass_scene self.new.pass self.new.null_target (R.meaning self.new.recorder)) }
+        ensures { Does (compute_scene R.meaning self.old) (set (set_compute_pipeline pipeline.now)) (answered result) (compute_scene R.meaning self.new) }
     {
         record_compute_pipeline(&mut self.recorder, &mut self.pass, pipeline)
     }
 
     pub fn dispatch_workgroups(&mut self, count: [u32; 3]) -> Result<(), Fault>
-        ensures { Does (pass_scene self.old.pass self.old.null_target (R.meaning self.old.recorder)) (drawing (dispatch (slice_index count 0) (slice_index count 1) (slice_index count 2))) (answered result) (pass_scene self.new.pass self.new.null_target (R.meaning self.new.recorder)) }
+        ensures { Does (compute_scene R.meaning self.old) (drawing (dispatch (slice_index count 0) (slice_index count 1) (slice_index count 2))) (answered result) (compute_scene R.meaning self.new) }
     {
         let [x, y, z] = count;
         let constants = SpecialConstants::from_dispatch(x, y, z);
@@ -74,7 +75,7 @@ impl<R: Recorder> ComputePass<R> {
     }
 
     pub fn dispatch_workgroups_indirect(&mut self, buffer: u32, offset: u64) -> Result<(), Fault>
-        ensures { Does (pass_scene self.old.pass self.old.null_target (R.meaning self.old.recorder)) (drawing (dispatch_indirect buffer offset)) (answered result) (pass_scene self.new.pass self.new.null_target (R.meaning self.new.recorder)) }
+        ensures { Does (compute_scene R.meaning self.old) (drawing (dispatch_indirect buffer offset)) (answered result) (compute_scene R.meaning self.new) }
     {
         if buffer == 0 {
             return Err(Number::Absent.at(0));
@@ -102,7 +103,7 @@ impl<R: Recorder> ComputePass<R> {
     ) -> Result<(), Fault>
         ensures lent { scratch.new.entries.ghost_name ≡ scratch.old.entries.ghost_name }
         ensures kept { Kept scratch.old.mark.fill scratch.new.mark.fill scratch.old.entries.now scratch.new.entries.now }
-        ensures does { Does (pass_scene self.old.pass self.old.null_target (R.meaning self.old.recorder)) (quiet (transition_call (changes_of (λ u. buffer u.bits) barriers.now) (length scratch.old.entries.now) scratch.old.mark.fill)) (answered result) (pass_scene self.new.pass self.new.null_target (R.meaning self.new.recorder)) }
+        ensures does { Does (compute_scene R.meaning self.old) (quiet (transition_call (changes_of (λ u. buffer u.bits) barriers.now) (length scratch.old.entries.now) scratch.old.mark.fill)) (answered result) (compute_scene R.meaning self.new) }
     {
         transition(&mut self.recorder, scratch, barriers)
     }
@@ -114,29 +115,29 @@ impl<R: Recorder> ComputePass<R> {
     ) -> Result<(), Fault>
         ensures lent { scratch.new.entries.ghost_name ≡ scratch.old.entries.ghost_name }
         ensures kept { Kept scratch.old.mark.fill scratch.new.mark.fill scratch.old.entries.now scratch.new.entries.now }
-        ensures does { Does (pass_scene self.old.pass self.old.null_target (R.meaning self.old.recorder)) (quiet (transition_call (changes_of (λ u. texture u.bits) barriers.now) (length scratch.old.entries.now) scratch.old.mark.fill)) (answered result) (pass_scene self.new.pass self.new.null_target (R.meaning self.new.recorder)) }
+        ensures does { Does (compute_scene R.meaning self.old) (quiet (transition_call (changes_of (λ u. texture u.bits) barriers.now) (length scratch.old.entries.now) scratch.old.mark.fill)) (answered result) (compute_scene R.meaning self.new) }
     {
         transition(&mut self.recorder, scratch, barriers)
     }
 
     // The end of the pass.
     pub fn end_compute_pass(self) -> Result<Recording<R>, Refusal<ComputePass<R>>>
-        ensures { MatchResult result (λ p. Does (pass_scene self.pass self.null_target (R.meaning self.recorder)) (ending Compute) taken (list_scene p.null_target (R.meaning p.recorder))) (λ e. Does (pass_scene self.pass self.null_target (R.meaning self.recorder)) (ending Compute) (refused e.fault) (pass_scene e.phase.pass e.phase.null_target (R.meaning e.phase.recorder))) }
+        ensures { MatchResult result (λ p. Does (compute_scene R.meaning self) (ending Compute) taken (list_scene R.meaning p)) (λ e. Does (compute_scene R.meaning self) (ending Compute) (refused (why_of e.fault)) (compute_scene R.meaning e.phase)) }
     {
         let ComputePass {
             mut recorder,
-            null_target,
+            own,
             pass,
         } = self;
         match record_ending(&mut recorder, pass.has_label) {
             Ok(()) => Ok(Recording {
                 recorder,
-                null_target,
+                own,
             }),
             Err(fault) => Err(Refusal {
                 phase: ComputePass {
                     recorder,
-                    null_target,
+                    own,
                     pass,
                 },
                 fault,
@@ -146,16 +147,16 @@ impl<R: Recorder> ComputePass<R> {
 
     // The list is given up with its pass.
     pub fn discard_encoding(self) -> Idle<R>
-        ensures { Does (pass_scene self.pass self.null_target (R.meaning self.recorder)) discard_encoding taken (idle_scene result.null_target (R.meaning result.recorder)) }
+        ensures { Does (compute_scene R.meaning self) discard_encoding taken (idle_scene R.meaning result) }
     {
         let ComputePass {
             recorder,
-            null_target,
+            own,
             pass: _,
         } = self;
         Idle {
             recorder,
-            null_target,
+            own,
         }
     }
 }

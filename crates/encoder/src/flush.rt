@@ -2,7 +2,7 @@
 ghost use Rattle.std.specs.Prelude.{◌≡◌, ℕ, ◌*◌, ◌+◌, ◌<◌, ◌≤◌, true, List, [], ◌∷◌, length};
 ghost use Rattle.command_list.specs.Commands.{Command, size, readable};
 ghost use Rattle.device.specs.Meaning.{sizes};
-ghost use Rattle.layouts.specs.Bits.{bit};
+ghost use Rattle.command_list.specs.Bits.{bit};
 ghost use Rattle.device.specs.Writes.{gathered, word_commands};
 ghost use Rattle.passes.specs.Flush.{vertex_commands, root_commands, flushed};
 ghost use Rattle.passes.specs.State.{bound_of, views_of, account};

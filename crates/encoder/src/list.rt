@@ -6,11 +6,13 @@ ghost use Rattle.resources.specs.Usages.{buffer, texture};
 ghost use Rattle.encoder.specs.Opening.{render_pass, compute_pass, transition as transition_call};
 ghost use Rattle.encoder.specs.Scenes.{begin_encoding, end_encoding, discard_encoding, opening, quiet, taken, refused, Does};
 ghost use Rattle.encoder.specs.Handled.{answered};
-ghost use Rattle.encoder.specs.Phases.{idle_scene, list_scene, pass_scene};
+ghost use Rattle.command_list.specs.Refusals.{why_of};
+ghost use Rattle.encoder.specs.Phases.{idle_scene, list_scene, render_scene, compute_scene, fresh};
 
 use crate::attachment::ColorAttachment;
 use crate::opening::{open_compute, open_render};
 use crate::phase::{ComputePass, Idle, Recording, Refusal, RenderPass};
+use crate::state::ListState;
 use command_list::command::Half;
 use command_list::fault::Fault;
 use device::recorder::Recorder;
@@ -23,26 +25,26 @@ impl<R: Recorder> Idle<R> {
     // An encoder over a recorder. Its null target is used where an attachment is left out.
     pub fn new(recorder: R, null_target: u64) -> Idle<R>
         ensures recorder { result.recorder ≡ recorder }
-        ensures null_target { result.null_target ≡ null_target }
+        ensures scene { idle_scene R.meaning result ≡ fresh null_target (R.meaning recorder) }
     {
         Idle {
             recorder,
-            null_target,
+            own: ListState { null_target },
         }
     }
 
     // A list is begun: the recorder starts anew.
     pub fn begin_encoding(self) -> Recording<R>
-        ensures { Does (idle_scene self.null_target (R.meaning self.recorder)) begin_encoding taken (list_scene result.null_target (R.meaning result.recorder)) }
+        ensures { Does (idle_scene R.meaning self) begin_encoding taken (list_scene R.meaning result) }
     {
         let Idle {
             mut recorder,
-            null_target,
+            own,
         } = self;
         recorder.start_anew();
         Recording {
             recorder,
-            null_target,
+            own,
         }
     }
 
@@ -52,7 +54,7 @@ impl<R: Recorder> Idle<R> {
     {
         let Idle {
             recorder,
-            null_target: _,
+            own: _,
         } = self;
         recorder
     }
@@ -66,7 +68,7 @@ impl<R: Recorder> Recording<R> {
     ) -> Result<(), Fault>
         ensures lent { scratch.new.entries.ghost_name ≡ scratch.old.entries.ghost_name }
         ensures kept { Kept scratch.old.mark.fill scratch.new.mark.fill scratch.old.entries.now scratch.new.entries.now }
-        ensures does { Does (list_scene self.old.null_target (R.meaning self.old.recorder)) (quiet (transition_call (changes_of (λ u. buffer u.bits) barriers.now) (length scratch.old.entries.now) scratch.old.mark.fill)) (answered result) (list_scene self.new.null_target (R.meaning self.new.recorder)) }
+        ensures does { Does (list_scene R.meaning self.old) (quiet (transition_call (changes_of (λ u. buffer u.bits) barriers.now) (length scratch.old.entries.now) scratch.old.mark.fill)) (answered result) (list_scene R.meaning self.new) }
     {
         transition(&mut self.recorder, scratch, barriers)
     }
@@ -78,36 +80,36 @@ impl<R: Recorder> Recording<R> {
     ) -> Result<(), Fault>
         ensures lent { scratch.new.entries.ghost_name ≡ scratch.old.entries.ghost_name }
         ensures kept { Kept scratch.old.mark.fill scratch.new.mark.fill scratch.old.entries.now scratch.new.entries.now }
-        ensures does { Does (list_scene self.old.null_target (R.meaning self.old.recorder)) (quiet (transition_call (changes_of (λ u. texture u.bits) barriers.now) (length scratch.old.entries.now) scratch.old.mark.fill)) (answered result) (list_scene self.new.null_target (R.meaning self.new.recorder)) }
+        ensures does { Does (list_scene R.meaning self.old) (quiet (transition_call (changes_of (λ u. texture u.bits) barriers.now) (length scratch.old.entries.now) scratch.old.mark.fill)) (answered result) (list_scene R.meaning self.new) }
     {
         transition(&mut self.recorder, scratch, barriers)
     }
 
     // The list is whole.
     pub fn end_encoding(self) -> Idle<R>
-        ensures { Does (list_scene self.null_target (R.meaning self.recorder)) end_encoding taken (idle_scene result.null_target (R.meaning result.recorder)) }
+        ensures { Does (list_scene R.meaning self) end_encoding taken (idle_scene R.meaning result) }
     {
         let Recording {
             recorder,
-            null_target,
+            own,
         } = self;
         Idle {
             recorder,
-            null_target,
+            own,
         }
     }
 
     // The list is given up: what stands in the recorder is of no use.
     pub fn discard_encoding(self) -> Idle<R>
-        ensures { Does (list_scene self.null_target (R.meaning self.recorder)) discard_encoding taken (idle_scene result.null_target (R.meaning result.recorder)) }
+        ensures { Does (list_scene R.meaning self) discard_encoding taken (idle_scene R.meaning result) }
     {
         let Recording {
             recorder,
-            null_target,
+            own,
         } = self;
         Idle {
             recorder,
-            null_target,
+            own,
         }
     }
 
@@ -120,15 +122,15 @@ impl<R: Recorder> Recording<R> {
         height: u32,
         attachments: &[Option<ColorAttachment>],
     ) -> Result<RenderPass<R>, Refusal<Recording<R>>>
-        ensures { MatchResult result (λ p. Does (list_scene self.null_target (R.meaning self.recorder)) (opening (render_pass (option_map (λ b. b.now) label.entry) width height attachments.now)) taken (pass_scene p.pass p.null_target (R.meaning p.recorder))) (λ e. Does (list_scene self.null_target (R.meaning self.recorder)) (opening (render_pass (option_map (λ b. b.now) label.entry) width height attachments.now)) (refused e.fault) (list_scene e.phase.null_target (R.meaning e.phase.recorder))) }
+        ensures { MatchResult result (λ p. Does (list_scene R.meaning self) (opening (render_pass (option_map (λ b. b.now) label.entry) width height attachments.now)) taken (render_scene R.meaning p)) (λ e. Does (list_scene R.meaning self) (opening (render_pass (option_map (λ b. b.now) label.entry) width height attachments.now)) (refused (why_of e.fault)) (list_scene R.meaning e.phase)) }
     {
         let Recording {
             mut recorder,
-            null_target,
+            own,
         } = self;
         match open_render(
             &mut recorder,
-            null_target,
+            own.null_target,
             label,
             width,
             height,
@@ -136,13 +138,13 @@ impl<R: Recorder> Recording<R> {
         ) {
             Ok(()) => Ok(RenderPass {
                 recorder,
-                null_target,
+                own,
                 pass: PassState::new(Half::Graphics, label.is_some()),
             }),
             Err(fault) => Err(Refusal {
                 phase: Recording {
                     recorder,
-                    null_target,
+                    own,
                 },
                 fault,
             }),
@@ -153,22 +155,22 @@ impl<R: Recorder> Recording<R> {
         self,
         label: Option<&[u8]>,
     ) -> Result<ComputePass<R>, Refusal<Recording<R>>>
-        ensures { MatchResult result (λ p. Does (list_scene self.null_target (R.meaning self.recorder)) (opening (compute_pass (option_map (λ b. b.now) label.entry))) taken (pass_scene p.pass p.null_target (R.meaning p.recorder))) (λ e. Does (list_scene self.null_target (R.meaning self.recorder)) (opening (compute_pass (option_map (λ b. b.now) label.entry))) (refused e.fault) (list_scene e.phase.null_target (R.meaning e.phase.recorder))) }
+        ensures { MatchResult result (λ p. Does (list_scene R.meaning self) (opening (compute_pass (option_map (λ b. b.now) label.entry))) taken (compute_scene R.meaning p)) (λ e. Does (list_scene R.meaning self) (opening (compute_pass (option_map (λ b. b.now) label.entry))) (refused (why_of e.fault)) (list_scene R.meaning e.phase)) }
     {
         let Recording {
             mut recorder,
-            null_target,
+            own,
         } = self;
         match open_compute(&mut recorder, label) {
             Ok(()) => Ok(ComputePass {
                 recorder,
-                null_target,
+                own,
                 pass: PassState::new(Half::Compute, label.is_some()),
             }),
             Err(fault) => Err(Refusal {
                 phase: Recording {
                     recorder,
-                    null_target,
+                    own,
                 },
                 fault,
             }),

@@ -1,12 +1,10 @@
 // What openings and endings of passes record.
 ghost use Rattle.std.specs.Prelude.{◌≡◌, ℕ, ◌≤◌, true, [], ◌∷◌, ◌++◌, length, map, None, option_map};
 ghost use Rattle.command_list.specs.Commands.{SetDescriptorHeaps, OMSetRenderTargets, size};
-ghost use Rattle.command_list.specs.declared.fault.Number.TheVariants as number;
 ghost use Rattle.device.specs.Meaning.{sizes};
-ghost use Rattle.passes.specs.Calls.{fault_at};
-ghost use Rattle.passes.specs.State.{fault_of};
 ghost use Rattle.encoder.specs.Opening.{target_of, clears, clear_records, no_target, render_pass, compute_pass, asks_opening, opening_records, ending_records};
 ghost use Rattle.encoder.specs.Putting.{Put, Offered, event_records, CanBegin, frame_records};
+ghost use Rattle.command_list.specs.Refusals.{fault_at, fault_of};
 
 use crate::attachment::{ColorAttachment, MAX_COLOR_ATTACHMENTS};
 use crate::flush::put;
@@ -39,7 +37,7 @@ fn target(null_target: u64, attachment: &Option<ColorAttachment>) -> u64
 
 // Every target is a handle. Refused: the first that is none, 3 at its index.
 fn check_targets(null_target: u64, attachments: &[Option<ColorAttachment>]) -> Result<(), Fault>
-    ensures { fault_of result ≡ fault_at number.Absent (no_target 0 null_target attachments.now) }
+    ensures { fault_of result ≡ fault_at 3 (no_target 0 null_target attachments.now) }
 {
     for place in 0..attachments.len() {
         if target(null_target, &attachments[place]) == 0 {
@@ -168,7 +166,7 @@ fn record_render<R: Recorder>(
 ) -> Result<(), Fault>
     requires begins { CanBegin units.now }
     requires few { length attachments.now ≤ 8 }
-    ensures { Offered (fault_at number.Absent (no_target 0 null_target attachments.now)) (event_records units.now ++ frame_records null_target extent.width extent.height attachments.now) (R.meaning recorder.old) result (R.meaning recorder.new) }
+    ensures { Offered (fault_at 3 (no_target 0 null_target attachments.now)) (event_records units.now ++ frame_records null_target extent.width extent.height attachments.now) (R.meaning recorder.old) result (R.meaning recorder.new) }
 {
     check_targets(null_target, attachments)?;
     let targets_size = TARGETS_BYTES + TARGET_BYTES * attachments.len();

@@ -4,31 +4,32 @@ ghost use Rattle.std.specs.Prelude.{◌≡◌, true};
 ghost use Rattle.command_list.specs.declared.command.Half.TheVariants.{Graphics, Compute};
 ghost use Rattle.encoder.specs.Scenes.{same_half};
 
+use crate::state::ListState;
 use command_list::fault::Fault;
 use passes::state::PassState;
 
 // No list is being recorded. The recorder has the one that was ended last.
 pub struct Idle<R> {
     pub(crate) recorder: R,
-    pub(crate) null_target: u64,
+    pub(crate) own: ListState,
 }
 
 // A list is being recorded, outside of passes.
 pub struct Recording<R> {
     pub(crate) recorder: R,
-    pub(crate) null_target: u64,
+    pub(crate) own: ListState,
 }
 
 pub struct RenderPass<R> {
     pub(crate) recorder: R,
-    pub(crate) null_target: u64,
+    pub(crate) own: ListState,
     pub(crate) pass: PassState,
     ghost renders: { same_half pass.kind Graphics ≡ true },
 }
 
 pub struct ComputePass<R> {
     pub(crate) recorder: R,
-    pub(crate) null_target: u64,
+    pub(crate) own: ListState,
     pub(crate) pass: PassState,
     ghost computes: { same_half pass.kind Compute ≡ true },
 }

@@ -2,3 +2,4 @@
 #![tactic(auto)]
 
 pub mod label;
+pub mod laws;

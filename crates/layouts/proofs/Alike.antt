@@ -1,26 +1,12 @@
 -- Layouts with equal parts are equal.
-use Rattle.std.proofs.Common.{◌≡◌, ℕ, zero, suc, ◌+◌, ◌^◌, ◌<◌, Bool, true, sym, ◌∙◌, le_refl, arith}
+use Rattle.std.proofs.Common.{◌≡◌, ℕ, Bool, true, sym, ◌∙◌}
 use mathlib.Core.HLevel.{is_prop→PathP, Π_prop}
 use mathlib.Core.Bool.{Bool-set}
-use native.Mathlib.Nat.{two-pow-succ}
-use Rattle.std.proofs.lemmas.Nat.{pow_pos, pow-add, mul-le}
 use Rattle.layouts.specs.declared.layout.PipelineLayout.{PipelineLayout}
 use Rattle.layouts.specs.declared.info.Owner.{Owner}
-use Rattle.layouts.specs.Bits.{bit}
+use Rattle.command_list.specs.Bits.{bit}
 use Rattle.layouts.specs.Owners.{sound, owner_of, owned, is_table, is_uniform}
 use Rattle.layouts.proofs.Masks.{same_bits}
-
-below_pow : (n : ℕ) → n < 2 ^ n
-below_pow zero = omega arith
-below_pow (suc n) = omega (arith, below_pow n, two-pow-succ n)
-
--- masks with the same slots
-all_bits : (m n : ℕ) → ((k : ℕ) → bit m k ≡ bit n k) → m ≡ n
-all_bits m n f =
-    same_bits (m + n) m n
-    (omega (arith, below_pow m, pow-add 2 m n, mul-le (2 ^ m) 1 (2 ^ m) (2 ^ n) (le_refl (2 ^ m)) (pow_pos n)))
-    (omega (arith, below_pow n, pow-add 2 m n, mul-le 1 (2 ^ n) (2 ^ m) (2 ^ n) (pow_pos m) (le_refl (2 ^ n))))
-    (λ k h. f k)
 
 module _ (x y : PipelineLayout) (a : x.signature ≡ y.signature) (b : x.total_root_elements ≡ y.total_root_elements)
     (c : x.special_constants ≡ y.special_constants) (d : x.immediates_info ≡ y.immediates_info) (e : x.bind_group_infos ≡ y.bind_group_infos) where
@@ -29,10 +15,10 @@ module _ (x y : PipelineLayout) (a : x.signature ≡ y.signature) (b : x.total_r
   owner_equal kind k = λ i. owned kind (owner_of (c i) (d i) (e i) k)
 
   tables_equal : x.tables ≡ y.tables
-  tables_equal = all_bits x.tables y.tables (λ k. x.table_slots k ∙ owner_equal is_table k ∙ sym (y.table_slots k))
+  tables_equal = same_bits x.tables y.tables (λ k. x.table_slots k ∙ owner_equal is_table k ∙ sym (y.table_slots k))
 
   uniforms_equal : x.uniforms ≡ y.uniforms
-  uniforms_equal = all_bits x.uniforms y.uniforms (λ k. x.uniform_slots k ∙ owner_equal is_uniform k ∙ sym (y.uniform_slots k))
+  uniforms_equal = same_bits x.uniforms y.uniforms (λ k. x.uniform_slots k ∙ owner_equal is_uniform k ∙ sym (y.uniform_slots k))
 
   pub layouts_equal : x ≡ y
   layouts_equal = λ i. record {

@@ -9,7 +9,7 @@ use Rattle.layouts.specs.declared.info.ImmediatesInfo.{ImmediatesInfo}
 use Rattle.layouts.specs.declared.info.PipelineLayoutSpecialConstants.{PipelineLayoutSpecialConstants}
 use Rattle.layouts.specs.declared.info.Owner.{Owner}
 use Rattle.layouts.specs.declared.info.Owner.TheVariants.{Table, Uniform, Immediates, Special}
-use Rattle.layouts.specs.Bits.{bit}
+use Rattle.command_list.specs.Bits.{bit}
 use Rattle.layouts.specs.Owners.{first_uniform, behind, among, when, of_group, of_groups, special_at, immediates_at, owners, first, owner_of, is_table, is_uniform, owned, held, group_within, groups_within, special_within, immediates_within, fits, once_below, sound}
 use Rattle.layouts.proofs.Masks.{bit_or_lem, bit_none}
 use Rattle.layouts.proofs.Steps.{once_decides}

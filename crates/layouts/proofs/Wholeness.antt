@@ -8,7 +8,7 @@ use Rattle.layouts.specs.declared.info.Owner.{Owner}
 use Rattle.layouts.specs.declared.info.Owner.TheVariants.{Table, Uniform, Immediates, Special}
 use Rattle.layouts.specs.declared.layout.PipelineLayout.{PipelineLayout}
 use Rattle.layouts.specs.Owners.{first_uniform, behind, among, when, of_group, of_groups, special_at, immediates_at, owners, first, is_table, is_uniform, owned, held, immediates_within, fits, once_below, sound}
-use Rattle.layouts.specs.Bits.{bit}
+use Rattle.command_list.specs.Bits.{bit}
 use Rattle.layouts.specs.Layouts.{owners_in, owner_in, group_in, Owns, Whole}
 use Rattle.layouts.proofs.Owning.{held_append, tables_of, uniforms_of, fit_parts, none_from, one_below, how_many, kind_owner, owner_special, is_table_lem, is_uniform_lem}
 

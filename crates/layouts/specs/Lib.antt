@@ -1,4 +1,3 @@
-pub mod Bits
 pub mod Equal
 pub mod EqualLaws
 pub mod Layouts

@@ -1,7 +1,7 @@
 // The parts that own a layout's slots, what making a layout asks of them, and the masks of its slots.
 ghost use Rattle.std.specs.Prelude.{◌≡◌, ℕ, ◌≤◌, Bool, true, false, ◌&&◌, length, Some, MatchResult, nat_lt};
 ghost use Rattle.command_list.specs.Seen.{IsFault};
-ghost use Rattle.layouts.specs.Bits.{bit};
+ghost use Rattle.command_list.specs.Bits.{bit};
 ghost use Rattle.layouts.specs.declared.info.Owner.{Owner};
 ghost use Rattle.layouts.specs.declared.info.BindGroupInfo.{BindGroupInfo};
 ghost use Rattle.layouts.specs.Owners.{first_uniform, behind, of_group, of_groups, owners, group_within, groups_within, fits as fitting, once_below, indexed, placed, is_table, is_uniform, held};

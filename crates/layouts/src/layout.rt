@@ -1,7 +1,7 @@
 // The layout of a pipeline's root slots.
 ghost use Rattle.std.specs.Prelude.{◌≡◌, ℕ, true, IfOk, Some, None, Decides, MatchResult, slice_index_or};
 ghost use Rattle.command_list.specs.Seen.{number_of};
-ghost use Rattle.layouts.specs.Bits.{bit};
+ghost use Rattle.command_list.specs.Bits.{bit};
 ghost use Rattle.layouts.specs.Owners.{sound, owner_of, owned, is_table, is_uniform, placed, verdict};
 
 use crate::checks::{RootParts, place};

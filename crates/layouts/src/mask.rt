@@ -1,6 +1,6 @@
 // Masks of 64 slots, a bit for each.
 ghost use Rattle.std.specs.Prelude.{◌≡◌, ℕ, ◌&&◌, nat_le, nat_lt};
-ghost use Rattle.layouts.specs.Bits.{bit};
+ghost use Rattle.command_list.specs.Bits.{bit};
 
 // The slots below n.
 pub fn low(n: u64) -> u64

@@ -61,6 +61,7 @@ module _ (c : Command) (xs ys : List ℕ) (n m : ℕ) (w : is_whole xs n ≡ ltb
       most = omega (arith, g.ends, g.within, same_length);
       made = ap (λ l. l - 1) same_length;
       shown = ap Some commands;
+      exact = λ bs e. omega (arith, g.ends, g.within, same_length);
     };
   }
 

@@ -4,7 +4,7 @@ use Rattle.std.proofs.lemmas.Bool.{ltb-true}
 use Rattle.passes.specs.declared.element.RootElement.TheVariants.{DynamicUniformBuffer}
 use Rattle.passes.specs.Account.{Bound, filled, filled_from}
 use Rattle.passes.specs.Calls.{addresses, too_far}
-use Rattle.passes.proofs.Questions.{some≢none}
+use Rattle.command_list.proofs.Refusing.{some≢none}
 
 -- what is left to fill from the slot k on makes the bound e of the bound b
 pub record Filling (e : Bound) (k : ℕ) (bs os : List ℕ) (b : Bound) : Type 0 where

@@ -3,7 +3,6 @@ use Rattle.std.proofs.Common.{◌≡◌, ℕ, zero, suc, ◌+◌, ◌<◌, ◌�
 use Rattle.std.proofs.lemmas.Bool.{true≢false, false≢true, eqb-true, ltb-true, cases_eq, and_parts, cond-true}
 use Rattle.command_list.specs.declared.fault.Fault.{Fault}
 use Rattle.command_list.specs.declared.fault.Number.{Number}
-use Rattle.command_list.specs.declared.fault.Number.TheVariants as number
 use Rattle.layouts.specs.declared.info.BindGroupInfo.{BindGroupInfo}
 use Rattle.layouts.specs.declared.info.ImmediatesInfo.{ImmediatesInfo}
 use Rattle.layouts.specs.declared.layout.PipelineLayout.{PipelineLayout}
@@ -15,28 +14,9 @@ use Rattle.layouts.proofs.SameLayouts.{layout_decides}
 use Rattle.bindings.specs.declared.binding.BufferBinding.{BufferBinding}
 use Rattle.passes.specs.declared.element.RootElement.{RootElement}
 use Rattle.passes.specs.Account.{Account, Pipeline, is_current, fits_owner, unfit}
-use Rattle.passes.specs.Calls.{set_bind_group, set_immediates, set_render_pipeline, set_compute_pipeline, set_vertex_buffer, DrawCall, addresses, unless, before, is_there, is_handle, table_there, uniforms_are, too_far, fault_at, agrees, asks_layout, words_fit, binding_fits, asks_set, drawable, buffer_there, asks_draw, fault}
-
--- ---- questions, one behind the other
-
-pub some≢none : {A : Type 0} (x : A) → Some x ≡ None → ⊥
-some≢none x e = true≢false (ap is_some e)
-
-pub before_none : (a b : Option Fault) → before a b ≡ None → (a ≡ None) × (b ≡ None)
-before_none None b e = (refl, e)
-before_none (Some f) b e = absurd (some≢none f e)
-
-pub unless_none : (b : Bool) (f : Fault) → unless b f ≡ None → b ≡ true
-unless_none true f e = refl
-unless_none false f e = absurd (some≢none f e)
-
-pub fault_none : (n : Number) (o : Option ℕ) → fault_at n o ≡ None → o ≡ None
-fault_none n None e = refl
-fault_none n (Some i) e = absurd (some≢none (fault n i) e)
-
--- a fault by its number and its place
-pub fault_is : (f : Fault) (n : Number) (p : ℕ) → (f.number ≡ n) × (f.place ≡ p) → f ≡ fault n p
-fault_is f n p e = λ i. record { number = e.0 i; place = e.1 i }
+use Rattle.passes.specs.Calls.{set_bind_group, set_immediates, set_render_pipeline, set_compute_pipeline, set_vertex_buffer, DrawCall, addresses, is_there, is_handle, table_there, uniforms_are, too_far, agrees, asks_layout, words_fit, binding_fits, asks_set, drawable, buffer_there, asks_draw}
+use Rattle.command_list.specs.Refusals.{unless, before, fault_at, fault}
+use Rattle.command_list.proofs.Refusing.{some≢none, before_none, unless_none, fault_none}
 
 -- ---- equal layouts
 
@@ -44,7 +24,7 @@ fault_is f n p e = λ i. record { number = e.0 i; place = e.1 i }
 pub current_layout : (l : PipelineLayout) (o : Option PipelineLayout) → asks_layout l o ≡ None → is_current l.signature o ≡ true → o ≡ Some l
 current_layout l None q e = absurd (false≢true e)
 current_layout l (Some c) q e =
-    let all : agrees l (Some c) ≡ true = unless_none (agrees l (Some c)) (fault number.Layout 0) q in
+    let all : agrees l (Some c) ≡ true = unless_none (agrees l (Some c)) (fault 6 0) q in
     ap Some (sym ((layout_decides l c).0 (sym (cond-true (eqb l.signature c.signature) (same_layout l c) true e) ∙ all)))
 
 -- ---- set calls
@@ -61,20 +41,20 @@ group_there (Some g) t n e f = (g, refl, eqb-true g.uniforms n f)
 pub group_asked : (l : PipelineLayout) (i t : ℕ) (bs os : List ℕ) (o : Option PipelineLayout) → asks_set (set_bind_group l i t bs os) o ≡ None
     → (g : BindGroupInfo) × (group_in l i ≡ Some g) × (g.uniforms ≡ length (addresses bs os)) × (asks_layout l o ≡ None)
 group_asked l i t bs os o e =
-    let a = before_none (unless (ltb i 8) (fault number.Range 0)) _ e in
-    let b = before_none (unless (table_there (group_in l i) t) (fault number.Absent 0)) _ a.1 in
-    let c = before_none (unless (eqb (length bs) (length os) && uniforms_are (group_in l i) (length bs)) (fault number.Count 0)) _ b.1 in
-    let d = before_none (fault_at number.Extent (too_far 0 (addresses bs os))) _ c.1 in
-    let n = and_parts (eqb (length bs) (length os)) (uniforms_are (group_in l i) (length bs)) (unless_none _ (fault number.Count 0) c.0) in
-    let g = group_there (group_in l i) t (length bs) (unless_none _ (fault number.Absent 0) b.0) n.1 in
+    let a = before_none (unless (ltb i 8) (fault 1 0)) _ e in
+    let b = before_none (unless (table_there (group_in l i) t) (fault 3 0)) _ a.1 in
+    let c = before_none (unless (eqb (length bs) (length os) && uniforms_are (group_in l i) (length bs)) (fault 4 0)) _ b.1 in
+    let d = before_none (fault_at 5 (too_far 0 (addresses bs os))) _ c.1 in
+    let n = and_parts (eqb (length bs) (length os)) (uniforms_are (group_in l i) (length bs)) (unless_none _ (fault 4 0) c.0) in
+    let g = group_there (group_in l i) t (length bs) (unless_none _ (fault 3 0) b.0) n.1 in
     (g.0, g.1, g.2 ∙ sym (addresses_length bs os (eqb-true (length bs) (length os) n.0)), d.1)
 
 pub immediates_asked : (l : PipelineLayout) (at : ℕ) (ws : List ℕ) (o : Option PipelineLayout) → asks_set (set_immediates l at ws) o ≡ None
     → (i : ImmediatesInfo) × (l.immediates_info ≡ Some i) × (asks_layout l o ≡ None)
 immediates_asked l at ws o e =
-    let a = before_none (unless (words_fit at (length ws)) (fault number.Range 0)) _ e in
-    let b = before_none (unless (is_there l.immediates_info) (fault number.Absent 0)) _ a.1 in
-    let i = there l.immediates_info (unless_none _ (fault number.Absent 0) b.0) in
+    let a = before_none (unless (words_fit at (length ws)) (fault 1 0)) _ e in
+    let b = before_none (unless (is_there l.immediates_info) (fault 3 0)) _ a.1 in
+    let i = there l.immediates_info (unless_none _ (fault 3 0) b.0) in
     (i.0, i.1, b.1)
   where
     there : (o : Option ImmediatesInfo) → is_there o ≡ true → (i : ImmediatesInfo) × (o ≡ Some i)
@@ -82,14 +62,14 @@ immediates_asked l at ws o e =
     there (Some i) e = (i, refl)
 
 pub render_asked : (p : RenderPipeline) (o : Option PipelineLayout) → asks_set (set_render_pipeline p) o ≡ None → asks_layout p.layout o ≡ None
-render_asked p o e = (before_none (unless (is_handle p.handle) (fault number.Absent 0)) (asks_layout p.layout o) e).1
+render_asked p o e = (before_none (unless (is_handle p.handle) (fault 3 0)) (asks_layout p.layout o) e).1
 
 pub compute_asked : (p : ComputePipeline) (o : Option PipelineLayout) → asks_set (set_compute_pipeline p) o ≡ None → asks_layout p.layout o ≡ None
-compute_asked p o e = (before_none (unless (is_handle p.handle) (fault number.Absent 0)) (asks_layout p.layout o) e).1
+compute_asked p o e = (before_none (unless (is_handle p.handle) (fault 3 0)) (asks_layout p.layout o) e).1
 
 pub vertex_asked : (i : ℕ) (x : BufferBinding) (o : Option PipelineLayout) → asks_set (set_vertex_buffer i x) o ≡ None → i < 16
 vertex_asked i x o e =
-    ltb-true i 16 (unless_none (ltb i 16) (fault number.Range 0) (before_none (unless (ltb i 16) (fault number.Range 0)) (unless (binding_fits x) (fault number.Extent 0)) e).0)
+    ltb-true i 16 (unless_none (ltb i 16) (fault 1 0) (before_none (unless (ltb i 16) (fault 1 0)) (unless (binding_fits x) (fault 5 0)) e).0)
 
 -- ---- draws
 
@@ -117,17 +97,17 @@ drawable_asked : (p : Option Pipeline) (o : Option PipelineLayout) (f : ℕ → 
 drawable_asked None o f e = absurd (some≢none _ e)
 drawable_asked (Some p) None f e = absurd (some≢none _ e)
 drawable_asked (Some p) (Some l) f e =
-    let a = before_none (unless (eqb p.signature l.signature) (fault number.Pipeline 0)) (fault_at number.Unfit (unfit l f 0 l.total_root_elements)) e in
+    let a = before_none (unless (eqb p.signature l.signature) (fault 7 0)) (fault_at 8 (unfit l f 0 l.total_root_elements)) e in
     record {
       pipeline = p;
       layout = l;
       set = refl;
       current = refl;
-      same = eqb-true p.signature l.signature (unless_none _ (fault number.Pipeline 0) a.0);
-      fit = λ k h. unfit_none l f l.total_root_elements 0 k (fault_none number.Unfit _ a.1) (omega arith) (omega arith);
+      same = eqb-true p.signature l.signature (unless_none _ (fault 7 0) a.0);
+      fit = λ k h. unfit_none l f l.total_root_elements 0 k (fault_none 8 _ a.1) (omega arith) (omega arith);
     }
 
 pub draw_asked : (c : DrawCall) (a : Account) → asks_draw c a ≡ None → Drawable a.pipeline a.roots.layout a.roots.elements
 draw_asked c a e =
     drawable_asked a.pipeline a.roots.layout a.roots.elements
-    (before_none (unless (buffer_there c) (fault number.Absent 0)) (drawable a.pipeline a.roots.layout a.roots.elements) e).1
+    (before_none (unless (buffer_there c) (fault 3 0)) (drawable a.pipeline a.roots.layout a.roots.elements) e).1

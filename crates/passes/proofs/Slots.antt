@@ -5,7 +5,7 @@ use borrow.Rule.Slice.PartMut.{put_mid}
 use Rattle.std.proofs.lemmas.Nat.{one_shl}
 use Rattle.std.proofs.lemmas.List.{drop_more}
 use Rattle.std.proofs.lemmas.Grind.{common_steps}
-use Rattle.layouts.specs.Bits.{bit}
+use Rattle.command_list.specs.Bits.{bit}
 use Rattle.layouts.proofs.Masks.{in_at, bit_none}
 use Rattle.device.specs.Devices.{update}
 use Rattle.passes.specs.Account.{overwritten}

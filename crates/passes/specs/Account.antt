@@ -1,6 +1,8 @@
 -- The account of a pass: what the accepted calls since its opening come to.
 use Rattle.std.specs.Prelude.{ℕ, zero, suc, ◌+◌, ◌-◌, Bool, true, false, cond, not, ◌&&◌, ◌||◌, List, [], ◌∷◌, map, length, Some, None, Option, ◌==◌, nat_lt, slice_index, slice_index_or}
+use Rattle.std.specs.List.{range_with_len}
 use Rattle.command_list.specs.declared.command.Half.{Half}
+use Rattle.command_list.specs.Refusals.{first_from}
 use Rattle.device.specs.Devices.{VertexView, update}
 use Rattle.layouts.specs.declared.info.PipelineLayoutSpecialConstants.{PipelineLayoutSpecialConstants}
 use Rattle.layouts.specs.declared.info.Owner.{Owner}
@@ -228,5 +230,4 @@ fits_owner (Some o) e = is_of o e
 
 -- the first of n slots from k on whose element is not of its owner's kind
 unfoldable pub unfit : PipelineLayout → (ℕ → RootElement) → ℕ → ℕ → Option ℕ
-unfit l f k zero = None
-unfit l f k (suc n) = cond (fits_owner (owner_in l k) (f k)) (unfit l f (k + 1) n) (Some k)
+unfit l f k n = first_from k (λ j. fits_owner (owner_in l j) (f j)) (range_with_len k n)

@@ -2,9 +2,7 @@
 use Rattle.std.specs.Prelude.{ℕ, ◌+◌, ◌/◌, ◌%◌, ◌^◌, Bool, true, false, cond, not, ◌&&◌, ◌||◌, List, [], ◌∷◌, ◌++◌, length, Some, None, Option, ◌==◌, nat_le, nat_lt}
 use Rattle.command_list.specs.declared.command.Half.{Half}
 use Rattle.command_list.specs.declared.command.Half.TheVariants.{Graphics, Compute}
-use Rattle.command_list.specs.declared.fault.Fault.{Fault}
-use Rattle.command_list.specs.declared.fault.Number.{Number}
-use Rattle.command_list.specs.declared.fault.Number.TheVariants as number
+use Rattle.command_list.specs.Refusals.{Why, fault, unless, before, first_from, fault_at}
 use Rattle.command_list.specs.Commands.{Command, SetRootSignature, SetPipelineState, IASetPrimitiveTopology, DrawInstanced, Dispatch, ExecuteIndirect}
 use Rattle.layouts.specs.declared.info.BindGroupInfo.{BindGroupInfo}
 use Rattle.layouts.specs.declared.info.ImmediatesInfo.{ImmediatesInfo}
@@ -203,19 +201,6 @@ draw_records c a = flushed a.half (prepared c a.roots) a.vertices ++ (own_comman
 
 -- ---- questions
 
-abbrev pub fault : Number → ℕ → Fault
-fault n p = record { number = n; place = p }
-
--- a question: its refusal unless the answer is yes
-abbrev pub unless : Bool → Fault → Option Fault
-unless true f = None
-unless false f = Some f
-
--- the first no of two
-abbrev pub before : Option Fault → Option Fault → Option Fault
-before None b = b
-before (Some f) b = Some f
-
 abbrev pub is_there : {X : Type 0} → Option X → Bool
 is_there None = false
 is_there (Some x) = true
@@ -235,12 +220,7 @@ uniforms_are (Some g) n = g.uniforms == n
 
 -- the index of the first address that is not below 2 to the 64, counted from i on
 abbrev pub too_far : ℕ → List ℕ → Option ℕ
-too_far i [] = None
-too_far i (x ∷ xs) = cond (nat_lt x (2 ^ 64)) (too_far (i + 1) xs) (Some i)
-
-abbrev pub fault_at : Number → Option ℕ → Option Fault
-fault_at n None = None
-fault_at n (Some i) = Some (fault n i)
+too_far i xs = first_from i (λ x. nat_lt x (2 ^ 64)) xs
 
 -- ---- equal layouts
 
@@ -251,8 +231,8 @@ agrees l (Some c) = cond (l.signature == c.signature) (same_layout l c) true
 
 -- ---- what set calls and draws ask, but for the space
 
-abbrev pub asks_layout : PipelineLayout → Option PipelineLayout → Option Fault
-asks_layout l current = unless (agrees l current) (fault number.Layout 0)
+abbrev pub asks_layout : PipelineLayout → Option PipelineLayout → Option Why
+asks_layout l current = unless (agrees l current) (fault 6 0)
 
 -- an offset in bytes is one of whole words, and the words end within 32
 abbrev pub words_fit : ℕ → ℕ → Bool
@@ -262,30 +242,30 @@ words_fit at n = at % 4 == 0 && nat_le (at / 4 + n) 32
 abbrev pub binding_fits : BufferBinding → Bool
 binding_fits x = nat_lt (address_of x) (2 ^ 64) && (nat_le x.offset x.buffer.size && nat_lt (size_of x) (2 ^ 32))
 
-abbrev pub asks_pipeline : ℕ → PipelineLayout → Option PipelineLayout → Option Fault
-asks_pipeline handle l current = before (unless (is_handle handle) (fault number.Absent 0)) (asks_layout l current)
+abbrev pub asks_pipeline : ℕ → PipelineLayout → Option PipelineLayout → Option Why
+asks_pipeline handle l current = before (unless (is_handle handle) (fault 3 0)) (asks_layout l current)
 
-abbrev pub asks_set : SetCall → Option PipelineLayout → Option Fault
+abbrev pub asks_set : SetCall → Option PipelineLayout → Option Why
 asks_set (set_bind_group l i t bs os) current =
-    before (unless (nat_lt i 8) (fault number.Range 0))
-    (before (unless (table_there (group_in l i) t) (fault number.Absent 0))
-    (before (unless (length bs == length os && uniforms_are (group_in l i) (length bs)) (fault number.Count 0))
-    (before (fault_at number.Extent (too_far 0 (addresses bs os)))
+    before (unless (nat_lt i 8) (fault 1 0))
+    (before (unless (table_there (group_in l i) t) (fault 3 0))
+    (before (unless (length bs == length os && uniforms_are (group_in l i) (length bs)) (fault 4 0))
+    (before (fault_at 5 (too_far 0 (addresses bs os)))
     (asks_layout l current))))
 asks_set (set_immediates l at ws) current =
-    before (unless (words_fit at (length ws)) (fault number.Range 0))
-    (before (unless (is_there l.immediates_info) (fault number.Absent 0))
+    before (unless (words_fit at (length ws)) (fault 1 0))
+    (before (unless (is_there l.immediates_info) (fault 3 0))
     (asks_layout l current))
 asks_set (set_render_pipeline p) current = asks_pipeline p.handle p.layout current
 asks_set (set_compute_pipeline p) current = asks_pipeline p.handle p.layout current
 asks_set (set_vertex_buffer i x) current =
-    before (unless (nat_lt i 16) (fault number.Range 0)) (unless (binding_fits x) (fault number.Extent 0))
+    before (unless (nat_lt i 16) (fault 1 0)) (unless (binding_fits x) (fault 5 0))
 
 -- a pipeline is set whose signature is current, 7; every slot but the special one has an element of its owner's kind, 8 with the lowest that has not
-abbrev pub drawable : Option Pipeline → Option PipelineLayout → (ℕ → RootElement) → Option Fault
-drawable None l f = Some (fault number.Pipeline 0)
-drawable (Some p) None f = Some (fault number.Pipeline 0)
-drawable (Some p) (Some l) f = before (unless (p.signature == l.signature) (fault number.Pipeline 0)) (fault_at number.Unfit (unfit l f 0 l.total_root_elements))
+abbrev pub drawable : Option Pipeline → Option PipelineLayout → (ℕ → RootElement) → Option Why
+drawable None l f = Some (fault 7 0)
+drawable (Some p) None f = Some (fault 7 0)
+drawable (Some p) (Some l) f = before (unless (p.signature == l.signature) (fault 7 0)) (fault_at 8 (unfit l f 0 l.total_root_elements))
 
 -- the indirect buffer of a call, if it has one, is a handle
 abbrev pub buffer_there : DrawCall → Bool
@@ -294,5 +274,5 @@ buffer_there (draw_indirect buffer offset count) = is_handle buffer
 buffer_there (dispatch x y z) = true
 buffer_there (dispatch_indirect buffer offset) = is_handle buffer
 
-abbrev pub asks_draw : DrawCall → Account → Option Fault
-asks_draw c a = before (unless (buffer_there c) (fault number.Absent 0)) (drawable a.pipeline a.roots.layout a.roots.elements)
+abbrev pub asks_draw : DrawCall → Account → Option Why
+asks_draw c a = before (unless (buffer_there c) (fault 3 0)) (drawable a.pipeline a.roots.layout a.roots.elements)

@@ -2,7 +2,8 @@
 use Rattle.std.specs.Prelude.{◌≡◌, ℕ, Some, None, Ok, Err, Option, Result, option_map, slice_index_or}
 use Rattle.command_list.specs.declared.fault.Fault.{Fault}
 use Rattle.device.specs.Devices.{VertexView, update}
-use Rattle.layouts.specs.Bits.{bit}
+use Rattle.command_list.specs.Bits.{bit}
+use Rattle.command_list.specs.Refusals.{why_of}
 use Rattle.passes.specs.declared.element.RootElement.TheVariants.{Empty}
 use Rattle.passes.specs.declared.roots.RootState.{RootState}
 use Rattle.passes.specs.declared.replaced.Replaced.{Replaced}
@@ -53,12 +54,7 @@ put_back (Some p) f = update f p.0 p.1
 abbrev pub restored : Replaced → Bound → Bound
 restored r b = record { layout = b.layout; elements = put_back r.element b.elements; immediates = b.immediates; touched = bit r.dirty }
 
--- the fault of an answer, if it is a refusal
-abbrev pub fault_of : {X : Type 0} → Result X Fault → Option Fault
-fault_of (Ok x) = None
-fault_of (Err f) = Some f
-
 -- what a set call makes of the record: it is refused by the first question that says no, and then nothing alters
 abbrev pub Sets : SetCall → PassState → Result Unit Fault → PassState → Type 0
 Sets c p (Ok u) q = (asks_set c p.roots.layout ≡ None) × (account q ≡ after_set c (account p))
-Sets c p (Err f) q = (asks_set c p.roots.layout ≡ Some f) × (q ≡ p)
+Sets c p (Err f) q = (asks_set c p.roots.layout ≡ Some (why_of f)) × (q ≡ p)

@@ -3,10 +3,10 @@ ghost use Rattle.std.specs.Prelude.{◌≡◌, ℕ, ◌+◌, ◌<◌, ◌≤◌,
 ghost use Rattle.layouts.specs.Owners.{first_uniform};
 ghost use Rattle.passes.specs.declared.element.RootElement.TheVariants.{DynamicUniformBuffer};
 ghost use Rattle.passes.specs.Account.{nothing_bound, filled, filled_from, renewed, switched, is_current, group_elements, constants_at, current_special, own_slot, emptied, untouched, unfit};
-ghost use Rattle.passes.specs.Calls.{addresses, too_far, supplied, asks_layout, fault_at, prepared_by, wiped_slot};
-ghost use Rattle.command_list.specs.declared.fault.Number.TheVariants as number;
+ghost use Rattle.passes.specs.Calls.{addresses, too_far, supplied, asks_layout, prepared_by, wiped_slot};
 ghost use Rattle.passes.specs.Flush.{firsts, words_used};
-ghost use Rattle.passes.specs.State.{bound_of, fault_of, restored};
+ghost use Rattle.passes.specs.State.{bound_of, restored};
+ghost use Rattle.command_list.specs.Refusals.{fault_at, fault_of};
 
 use crate::element::RootElement;
 use crate::replaced::Replaced;
@@ -202,7 +202,7 @@ impl RootState {
 
     // Every slot of a layout but the special one has an element of its owner's kind. Refused: the lowest that has not.
     pub(crate) fn check_elements(&self, layout: &PipelineLayout) -> Result<(), Fault>
-        ensures { fault_of result ≡ fault_at number.Unfit (unfit layout.now (bound_of self.now).elements 0 layout.now.total_root_elements) }
+        ensures { fault_of result ≡ fault_at 8 (unfit layout.now (bound_of self.now).elements 0 layout.now.total_root_elements) }
     {
         for slot in 0..layout.total() {
             if !self.root_elements[slot as usize].fits(layout.owner(slot)) {

@@ -1,9 +1,9 @@
 // The record of a pass.
 ghost use Rattle.std.specs.Prelude.{◌≡◌, ◌&&◌, not, length, option_map};
 ghost use Rattle.passes.specs.Account.{opened, is_current, own_slot, with_roots};
-ghost use Rattle.passes.specs.Calls.{set_bind_group, set_immediates, set_render_pipeline, set_compute_pipeline, set_vertex_buffer, after_set, asks_pipeline, is_signed, drawable, fault_at, too_far, addresses, prepared_by, marked};
-ghost use Rattle.command_list.specs.declared.fault.Number.TheVariants as number;
-ghost use Rattle.passes.specs.State.{bound_of, pipeline_of, account, fault_of, restored, Sets};
+ghost use Rattle.passes.specs.Calls.{set_bind_group, set_immediates, set_render_pipeline, set_compute_pipeline, set_vertex_buffer, after_set, asks_pipeline, is_signed, drawable, too_far, addresses, prepared_by, marked};
+ghost use Rattle.passes.specs.State.{bound_of, pipeline_of, account, restored, Sets};
+ghost use Rattle.command_list.specs.Refusals.{fault_at, fault_of};
 
 use crate::replaced::Replaced;
 use crate::roots::{MAX_IMMEDIATES, RootState};
@@ -43,7 +43,7 @@ pub struct PassState {
 // Each base address with its offset has 64 bits. Refused: the first that has not, 5 at its index.
 fn check_addresses(bases: &[u64], offsets: &[u32]) -> Result<(), Fault>
     requires { length bases.now ≡ length offsets.now }
-    ensures { fault_of result ≡ fault_at number.Extent (too_far 0 (addresses bases.now offsets.now)) }
+    ensures { fault_of result ≡ fault_at 5 (too_far 0 (addresses bases.now offsets.now)) }
 {
     for place in 0..bases.len() {
         if bases[place]

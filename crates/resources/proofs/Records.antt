@@ -8,6 +8,7 @@ use Rattle.command_list.specs.declared.fault.Fault.{Fault}
 use Rattle.command_list.specs.Numbers.{total}
 use Rattle.command_list.specs.Commands.{Command, ResourceBarrier, entry, readable}
 use Rattle.device.specs.Meaning.{Meaning, Recorded, Asked, sizes}
+use Rattle.device.proofs.Runs.{recorded_none}
 use Rattle.resources.specs.Batches.{transition_records, Takes, Batched}
 
 pub total_entries : (es : List Barrier) → total (flat_map entry es) ≡ 17 * length es
@@ -52,3 +53,13 @@ module _ (m n : Meaning) (len was end : ℕ) (es part : List Barrier) (short : l
       let b = barriers_readable part (omega (arith, l, s)) (omega (arith, l, k)) in
       let e : sizes (ResourceBarrier part ∷ []) ≡ sizes (transition_records es) = ap sizes (one h) in
       (r.same, inr (r.fault, taken_in, ⊎_elim (λ x. x) (λ x. absurd (r.why b (omega (arith, x, e)))) (cases_lt m.space (sizes (transition_records es)))))
+
+  -- none was made, and nothing is recorded
+  pub batch_none : length part ≡ 0 → Batched m len was es (Ok tt) m
+  batch_none h =
+      let e = no_records es (omega (arith, ap length put.2, h)) in
+      (taken_in, omega (arith, ap sizes e), subst (λ (cs : List Command). Recorded m cs m) (sym e) (recorded_none m))
+    where
+      no_records : (es : List Barrier) → length es ≡ 0 → transition_records es ≡ []
+      no_records [] z = refl
+      no_records (b ∷ bs) z = absurd (omega arith)

@@ -6,6 +6,7 @@ use Rattle.command_list.specs.declared.command.Barrier.{Barrier}
 use Rattle.command_list.specs.declared.command.BarrierType.TheVariants.{Transition, Uav}
 use Rattle.command_list.specs.declared.fault.Fault.{Fault}
 use Rattle.command_list.specs.Seen.{number_of}
+use Rattle.command_list.specs.Refusals.{Why, before, fault_at, first_from, AllPass, First}
 use Rattle.resources.specs.Usages.{Usage, known, state_of, ordered}
 
 -- a resource passes from one usage to another
@@ -40,45 +41,12 @@ in_range c = known c.from && known c.to
 abbrev pub present : Change → Bool
 present c = nat_lt 0 c.resource
 
--- the index of the first change that fails a test, counted from i on
-abbrev pub first_from : ℕ → (Change → Bool) → List Change → Option ℕ
-first_from i good [] = None
-first_from i good (c ∷ cs) = cond (good c) (first_from (i + 1) good cs) (Some i)
-
--- a refusal's number and place
-abbrev pub Why : Type 0
-Why = ℕ × ℕ
-
-abbrev pub refused_at : ℕ → Option ℕ → Option Why
-refused_at n None = None
-refused_at n (Some i) = Some (n, i)
-
--- the first of two refusals
-abbrev pub or_else : Option Why → Option Why → Option Why
-or_else None b = b
-or_else (Some w) b = Some w
-
 -- what is asked of changes, each question of all of them: usages in range, 1; a resource, 3. The first that fails decides
 abbrev pub verdict : List Change → Option Why
-verdict cs = or_else (refused_at 1 (first_from 0 in_range cs)) (refused_at 3 (first_from 0 present cs))
-
--- the number and place that a call answered, if it was refused
-abbrev pub answered : Result Unit Fault → Option Why
-answered (Ok u) = None
-answered (Err f) = Some (number_of f.number, f.place)
-
--- all changes pass a test
-abbrev pub All : (Change → Bool) → List Change → Type 0
-All good cs = (k : ℕ) (d : Change) → k < length cs → good (slice_index_or cs k d) ≡ true
-
--- the change at i is the first that fails a test
-pub record First (good : Change → Bool) (cs : List Change) (i : ℕ) : Type 0 where
-  pub within : i < length cs
-  pub fails : (d : Change) → good (slice_index_or cs i d) ≡ false
-  pub before : (k : ℕ) (d : Change) → k < i → good (slice_index_or cs k d) ≡ true
+verdict cs = before (fault_at 1 (first_from 0 in_range cs)) (fault_at 3 (first_from 0 present cs))
 
 -- what the answer to these questions says of the changes
 abbrev pub Decided : List Change → Result Unit Fault → Type 0
-Decided cs (Ok u) = All in_range cs × All present cs
+Decided cs (Ok u) = AllPass in_range cs × AllPass present cs
 Decided cs (Err f) =
-    ((number_of f.number ≡ 1) × First in_range cs f.place) ⊎ ((number_of f.number ≡ 3) × All in_range cs × First present cs f.place)
+    ((number_of f.number ≡ 1) × First in_range cs f.place) ⊎ ((number_of f.number ≡ 3) × AllPass in_range cs × First present cs f.place)

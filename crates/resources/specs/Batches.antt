@@ -5,7 +5,8 @@ use Rattle.command_list.specs.declared.fault.Fault.{Fault}
 use Rattle.command_list.specs.Commands.{Command, ResourceBarrier}
 use Rattle.command_list.specs.Seen.{IsFault}
 use Rattle.device.specs.Meaning.{Meaning, Recorded, sizes}
-use Rattle.resources.specs.Barriers.{Change, barriers_of, verdict, answered}
+use Rattle.resources.specs.Barriers.{Change, barriers_of, verdict}
+use Rattle.command_list.specs.Refusals.{fault_of}
 
 -- barriers go into one record; none make none
 abbrev pub transition_records : List Barrier → List Command
@@ -31,7 +32,7 @@ Batched m len fill es (Err f) n =
 -- the same behind the questions that are asked of the changes first
 abbrev pub Transitioned : Meaning → ℕ → ℕ → List Change → Result Unit Fault → Meaning → Type 0
 Transitioned m len fill cs r n =
-    ((verdict cs ≡ None) × Batched m len fill (barriers_of cs) r n) ⊎ (((verdict cs ≡ None) → ⊥) × (answered r ≡ verdict cs) × (n ≡ m))
+    ((verdict cs ≡ None) × Batched m len fill (barriers_of cs) r n) ⊎ (((verdict cs ≡ None) → ⊥) × (fault_of r ≡ verdict cs) × (n ≡ m))
 
 -- the host's part of a scratch: the fill, how many entries there are, and those below the fill
 pub record Kept (fill fill' : ℕ) (entries entries' : List Barrier) : Type 0 where

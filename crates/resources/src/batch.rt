@@ -2,9 +2,10 @@
 ghost use Rattle.std.specs.Prelude.{◌≡◌, ◌≤◌, Bool, not, length, take};
 ghost use Rattle.command_list.specs.Seen.{number_of};
 ghost use Rattle.resources.specs.declared.barrier.ResourceBarrier.{ResourceBarrier};
-ghost use Rattle.resources.specs.Barriers.{Change, barrier_of, barriers_of, refused_at, first_from, in_range, present, verdict, answered, Decided};
+ghost use Rattle.resources.specs.Barriers.{Change, barrier_of, barriers_of, in_range, present, verdict, Decided};
 ghost use Rattle.resources.specs.Listed.{change_of, changes_of};
 ghost use Rattle.resources.specs.Batches.{Batched, Transitioned, Kept, Put};
+ghost use Rattle.command_list.specs.Refusals.{fault_at, first_from, fault_of};
 
 use crate::barrier::{ResourceBarrier, Uses};
 use crate::scratch::{Mark, Restore, Scratch};
@@ -56,7 +57,7 @@ fn check_first<U: Uses, F: FnMut(&ResourceBarrier<U>) -> bool>(
     fails: F,
 ) -> Result<(), Fault>
     requires { (state : F) (item : _) → F.pre state item }
-    ensures { (good : Change → Bool) → ((item : _) (failed : Bool) (after : F) → F.step fails item failed after → (after ≡ fails) × (failed ≡ not (good (change_of U.Uses.usage item.now)))) → answered result ≡ refused_at (number_of number) (first_from 0 good (changes_of U.Uses.usage list.now)) }
+    ensures { (good : Change → Bool) → ((item : _) (failed : Bool) (after : F) → F.step fails item failed after → (after ≡ fails) × (failed ≡ not (good (change_of U.Uses.usage item.now)))) → fault_of result ≡ fault_at (number_of number) (first_from 0 good (changes_of U.Uses.usage list.now)) }
 {
     match list.iter().position(fails) {
         Some(place) => Err(number.at(place)),
@@ -66,7 +67,7 @@ fn check_first<U: Uses, F: FnMut(&ResourceBarrier<U>) -> bool>(
 
 // What is asked of changes before anything is made of them.
 pub fn check<U: Uses>(list: &[ResourceBarrier<U>]) -> Result<(), Fault>
-    ensures answer { answered result ≡ verdict (changes_of U.Uses.usage list.now) }
+    ensures answer { fault_of result ≡ verdict (changes_of U.Uses.usage list.now) }
     ensures decided { Decided (changes_of U.Uses.usage list.now) result }
 {
     check_first(list, Number::Range, |item| !in_range(item))?;

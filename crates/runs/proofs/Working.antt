@@ -11,11 +11,9 @@ use Rattle.layouts.specs.declared.layout.PipelineLayout.{PipelineLayout}
 use Rattle.layouts.specs.declared.info.BindGroupInfo.{BindGroupInfo}
 use Rattle.layouts.specs.declared.info.ImmediatesInfo.{ImmediatesInfo}
 use Rattle.command_list.specs.Commands.{Command, BeginEvent, SetDescriptorHeaps}
-use Rattle.command_list.specs.declared.fault.Number.TheVariants as number
 use Rattle.std.specs.Str.{chars}
 use Rattle.labels.specs.Unicode.{utf8s, utf16s}
 use Rattle.labels.proofs.Texts.{encoded_once}
-use Rattle.passes.specs.Calls.{fault, unless}
 use Rattle.encoder.specs.Opening.{are_scalars, same_numbers}
 use Rattle.layouts.specs.declared.info.PipelineLayoutSpecialConstants.{PipelineLayoutSpecialConstants}
 use Rattle.passes.specs.declared.element.RootElement.TheVariants.{SpecialConstants}
@@ -24,6 +22,7 @@ use Rattle.device.specs.Writes.{gathered}
 use Rattle.encoder.specs.Scenes.{Call, Scene, is_taken, account_of, records, next, start_of, judged, verdict, Does}
 use Rattle.encoder.specs.Phases.{scene}
 use Rattle.runs.specs.Worked.{come_to, curves, labelled, spent, behind, behind_all, outcomes, plots, Come_true, empty, IsPlotted, WorkedPlots}
+use Rattle.command_list.specs.Refusals.{fault, unless}
 
 -- the layout with its parts written out
 abbrev pub groups_of : List (Option BindGroupInfo)
@@ -100,7 +99,7 @@ unfolding verdict
 label_comes = λ i.
     let cs = label_chars i in
     let rs : List Command = BeginEvent (utf16s cs ++ 0 ∷ []) ∷ SetDescriptorHeaps true ∷ [] in
-    come_to (judged (unless (are_scalars cs && same_numbers (utf8s cs) (0xC3 ∷ 0xA9 ∷ [])) (fault number.Text 0)) (leb (sizes rs) 1000)) rs ∷ []
+    come_to (judged (unless (are_scalars cs && same_numbers (utf8s cs) (0xC3 ∷ 0xA9 ∷ [])) (fault 2 0)) (leb (sizes rs) 1000)) rs ∷ []
 
 abbrev Minus_one : PipelineLayout → Type 0
 Minus_one k = (account_of (behind_all (scene (curves k).stage 0 (empty (curves k).space)) (curves k).calls).stage).roots.elements 2 ≡ SpecialConstants (record { first_vertex_or_x = negsuc 0; first_instance_or_y = 0; unused_or_z = 0 })

@@ -1,6 +1,7 @@
 -- What calls, answers and phases stand for.
 use Rattle.std.specs.Prelude.{ℕ, option_map, slice_index}
 use Rattle.command_list.specs.declared.command.Half.TheVariants.{Graphics, Compute}
+use Rattle.command_list.specs.Refusals.{why_of}
 use Rattle.device.specs.Meaning.{Meaning}
 use Rattle.resources.specs.Listed.{changes_of}
 use Rattle.resources.specs.Usages.{buffer, texture}
@@ -41,7 +42,7 @@ call_of len fill (call.DispatchWorkgroupsIndirect b offset) = scenes.drawing (pa
 
 abbrev pub told : Answer → scenes.Answer
 told answer.Taken = scenes.taken
-told (answer.Refused f) = scenes.refused f
+told (answer.Refused f) = scenes.refused (why_of f)
 told answer.NotOffered = scenes.not_offered
 
 -- the scene of an encoder in whichever phase it is

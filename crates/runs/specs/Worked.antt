@@ -1,8 +1,6 @@
 -- Worked plots: calls of an encoder, and what they come to by the definitions that the calls' contracts cite.
 use Rattle.std.specs.Prelude.{◌≡◌, ℕ, ◌-◌, Bool, true, false, cond, List, [], ◌∷◌, Some, None, negsuc}
 use Rattle.command_list.specs.declared.command.Half.TheVariants.{Graphics}
-use Rattle.command_list.specs.declared.fault.Number.{Number}
-use Rattle.command_list.specs.declared.fault.Number.TheVariants as number
 use Rattle.command_list.specs.Commands.{Command, BeginEvent, SetDescriptorHeaps, SetRootSignature, SetPipelineState, IASetPrimitiveTopology, IASetVertexBuffers, SetRoot32BitConstant, SetRootDescriptorTable, SetRootConstantBufferView, ResourceBarrier, DrawInstanced, ExecuteIndirect, record_of}
 use Rattle.device.specs.Devices.{play, start}
 use Rattle.device.specs.Meaning.{Meaning, sizes, shown_more}
@@ -22,12 +20,12 @@ use Rattle.encoder.specs.Phases.{scene}
 -- what a call comes to: its commands, or a refusal
 pub data Outcome : Type 0 where
   makes : List Command → Outcome
-  refuses : Number → ℕ → Outcome
+  refuses : ℕ → ℕ → Outcome
   passed_over : Outcome
 
 abbrev pub come_to : Answer → List Command → Outcome
 come_to taken cs = makes cs
-come_to (refused f) cs = refuses f.number f.place
+come_to (refused w) cs = refuses w.number w.place
 come_to not_offered cs = passed_over
 
 -- what a recorder means behind commands, which used exactly their bytes, as they do in list bytes
@@ -134,7 +132,7 @@ one_byte_short k = record {
   stage = render;
   space = 101;
   calls = set_pipeline k ∷ set_samples ∷ set_group k ∷ curve 7 ∷ [];
-  outcome = signed ∷ nothing ∷ nothing ∷ refuses number.Full 0 ∷ [];
+  outcome = signed ∷ nothing ∷ nothing ∷ refuses 10 0 ∷ [];
 }
 
 -- with an indirect signature of its own: behind an indirect draw the constants are written again
@@ -152,7 +150,7 @@ group_first k = record { stage = render; space = 1000; calls = set_group k ∷ s
 
 -- a draw without its group
 abbrev pub no_group : PipelineLayout → Plot
-no_group k = record { stage = render; space = 1000; calls = set_pipeline k ∷ set_samples ∷ curve 7 ∷ []; outcome = signed ∷ nothing ∷ refuses number.Unfit 0 ∷ [] }
+no_group k = record { stage = render; space = 1000; calls = set_pipeline k ∷ set_samples ∷ curve 7 ∷ []; outcome = signed ∷ nothing ∷ refuses 8 0 ∷ [] }
 
 -- a copy's target becomes vertices; storage is put in order; a usage that stays needs nothing
 abbrev pub changes : Plot

@@ -6,10 +6,11 @@ use Rattle.device.proofs.Runs.{recorded_then}
 use Rattle.passes.specs.Account.{Account, with_roots}
 use Rattle.passes.specs.Calls.{marked, prepared_by}
 use Rattle.passes.specs.Flush.{flushed}
-use Rattle.passes.specs.State.{account, fault_of}
+use Rattle.passes.specs.State.{account}
 use Rattle.encoder.proofs.Coming.{put_recorded}
 use Rattle.encoder.proofs.Handling.{handled_full, handled_taken, sizes_last}
 use Rattle.encoder.proofs.draw.record_draw.Goals as goal
+use Rattle.command_list.specs.Refusals.{fault_of}
 
 -- a pass's flush
 abbrev flush_of : Account → List Command

@@ -1,5 +1,5 @@
 use Rattle.std.proofs.Common.{◌≡◌, ℕ, ◌^◌, ◌<◌, true}
-use Rattle.layouts.specs.Bits.{bit}
+use Rattle.command_list.specs.Bits.{bit}
 use Rattle.device.specs.Writes.{gathered}
 use Rattle.encoder.proofs.Coming.{Coming}
 use Rattle.encoder.proofs.flush.flush.Given as goal

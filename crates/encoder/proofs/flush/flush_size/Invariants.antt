@@ -1,5 +1,5 @@
 use Rattle.std.proofs.Common.{◌≡◌, ℕ, ◌^◌, ◌<◌, true}
-use Rattle.layouts.specs.Bits.{bit}
+use Rattle.command_list.specs.Bits.{bit}
 use Rattle.encoder.proofs.Turns.{Sizing}
 use Rattle.encoder.proofs.flush.flush_size.Given as goal
 

@@ -2,12 +2,12 @@ use Rattle.std.proofs.Common.{◌≡◌, ℕ, List, [], ◌∷◌, map, slice_in
 use Rattle.std.proofs.lemmas.List.{length-map}
 use Rattle.command_list.specs.Commands.{RSSetViewports, RSSetScissorRects}
 use Rattle.device.specs.Meaning.{Recorded}
-use Rattle.passes.specs.State.{fault_of}
 use Rattle.encoder.specs.Opening.{target_of}
 use Rattle.encoder.proofs.Coming.{put_recorded}
 use Rattle.encoder.proofs.Handling.{handled_full}
 use Rattle.encoder.proofs.Sizes.{targets_size, render_size, render_recorded, offered_put}
 use Rattle.encoder.proofs.opening.record_render.Goals as goal
+use Rattle.command_list.specs.Refusals.{fault_of}
 
 pub returns-then-space-size : goal.returns-then-space-size
 returns-then-space-size g c =

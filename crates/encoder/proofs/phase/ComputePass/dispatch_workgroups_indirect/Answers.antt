@@ -4,10 +4,10 @@ use Rattle.command_list.specs.declared.command.Half.TheVariants.{Compute}
 use Rattle.command_list.specs.declared.fault.Number.TheVariants as number
 use Rattle.command_list.specs.Commands.{ExecuteIndirect}
 use Rattle.passes.specs.Calls.{dispatch_indirect}
-use Rattle.passes.proofs.Questions.{fault_is}
 use Rattle.encoder.specs.Scenes.{pass_draws}
 use Rattle.encoder.proofs.Handling.{does_draw, draw_absent, computes}
 use Rattle.encoder.proofs.phase.ComputePass.dispatch_workgroups_indirect.Goals as goal
+use Rattle.command_list.proofs.Refusing.{fault_is}
 
 pub returns-then-buffer-eq0 : goal.returns-then-buffer-eq0
 returns-then-buffer-eq0 g c =

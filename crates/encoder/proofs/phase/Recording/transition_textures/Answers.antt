@@ -13,5 +13,5 @@ returns-clause-does g c =
     let len = length a.scratch.now.entries.now in
     let fill = a.scratch.now.mark.fill in
     let m = g.R.Recorder.meaning in
-    does_listed (transition cs len fill) a.self.now.null_target (m a.self.now.recorder) (m c.transition.new.recorder) c.transition.result refl
+    does_listed (transition cs len fill) a.self.now.own (m a.self.now.recorder) (m c.transition.new.recorder) c.transition.result refl
     (transitioned (m a.self.now.recorder) (m c.transition.new.recorder) len fill cs tt c.transition.result c.transition.ensures.transitioned)

@@ -6,7 +6,7 @@ use Rattle.device.specs.Meaning.{Asked}
 use Rattle.encoder.specs.Opening.{set_scissor_rect}
 use Rattle.encoder.specs.Scenes.{quiet, pass_quiets, Does}
 use Rattle.encoder.specs.Handled.{answered}
-use Rattle.encoder.specs.Phases.{pass_scene}
+use Rattle.encoder.specs.Phases.{render_scene}
 use Rattle.encoder.proofs.Handling.{does_quiet, handled_one, handled_asked, renders, scissor_within, scissor_outside}
 use Rattle.encoder.proofs.phase.RenderPass.set_scissor_rect.Goals as goal
 
@@ -17,7 +17,7 @@ returns-in_err-ends g c =
     let p = err_from_is_err_and c.from_residual.result c.from_residual.ensures.1 in
     let e = c.in_err-ends.ensures in
     let f = c.in_err-ends.field-0.0 in
-    let s = pass_scene c.args.self.now.pass c.args.self.now.null_target (g.R.Recorder.meaning c.args.self.now.recorder) in
+    let s = render_scene g.R.Recorder.meaning c.args.self.now in
     subst (λ x. Does s (quiet call) (answered x) s) (sym (p.1 ∙ ap Err p.2))
     (does_quiet call _ _ _ _ (Err f) (ap (λ h. pass_quiets h call) (renders _ c.args.self.now.renders)) (handled_asked _ _ _ _ _ _ _ f (scissor_outside r f e.0 e.1) refl refl))
 

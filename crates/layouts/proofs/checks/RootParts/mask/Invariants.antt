@@ -1,7 +1,7 @@
 use Rattle.std.proofs.Common.{◌≡◌, ℕ, Bool, ◌&&◌, ltb, Some}
 use Rattle.layouts.specs.declared.info.BindGroupInfo.{BindGroupInfo}
 use Rattle.layouts.specs.declared.info.Owner.{Owner}
-use Rattle.layouts.specs.Bits.{bit}
+use Rattle.command_list.specs.Bits.{bit}
 use Rattle.layouts.specs.Owners.{of_group, held}
 use Rattle.layouts.proofs.Owning.{Gathers}
 use Rattle.layouts.proofs.checks.RootParts.mask.Given as goal

@@ -1,5 +1,5 @@
 use Rattle.std.proofs.Common.{◌≡◌, ◌&&◌, leb, ltb, sym, ap, ◌∙◌, rules, of_calls}
-use Rattle.layouts.specs.Bits.{bit}
+use Rattle.command_list.specs.Bits.{bit}
 use Rattle.layouts.specs.Owners.{first_uniform, behind, is_table, is_uniform}
 use Rattle.layouts.proofs.Owning.{tables_of, uniforms_of, span_among}
 use Rattle.layouts.proofs.checks.RootParts.masks.Goals as goal
