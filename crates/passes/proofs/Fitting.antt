@@ -16,7 +16,7 @@ use Rattle.layouts.proofs.Wholeness.{whole, is_immediates, is_special, special_s
 use Rattle.bindings.specs.declared.constants.SpecialConstants.{SpecialConstants as Constants}
 use Rattle.passes.specs.declared.element.RootElement.{RootElement}
 use Rattle.passes.specs.declared.element.RootElement.TheVariants.{Empty, Immediates, SpecialConstants, DescriptorTable, DynamicUniformBuffer}
-use Rattle.passes.specs.Account.{Bound, slot_of, special_slot, own_slot_of, own_slot, current_special, is_constants, fits_owner}
+use Rattle.passes.specs.Account.{Bound, slot_of, special_slot, own_slot_of, own_slot, current_special, is_constants, fits_owner, is_special_element}
 use Rattle.passes.specs.Flush.{Value, nothing, table_at, view_at, words_are, firsts, words_used, size_of, constant_words, element_value, value_at}
 
 -- ---- owners
@@ -83,13 +83,6 @@ pub group_below : (l : PipelineLayout) (i : ℕ) (g : BindGroupInfo) → group_i
 group_below l i g is j low high = let few = (whole l).few in ⊎_elim (λ o. omega (arith, o.0)) (λ o. omega (arith, o.0)) (group_owned l i g is j low high)
 
 -- ---- elements and their values
-
-abbrev pub is_special_element : RootElement → Bool
-is_special_element Empty = false
-is_special_element Immediates = false
-is_special_element (SpecialConstants s) = true
-is_special_element (DescriptorTable a) = false
-is_special_element (DynamicUniformBuffer a) = false
 
 -- special constants, or nothing
 abbrev pub may_be_special : RootElement → Bool
