@@ -56,7 +56,7 @@ unfolding front
 front_whole bs l p h = ap read_frame (framing_whole bs l p h)
 
 -- a frame lies within the bytes, and takes three of them at least
-framing_within : (bs : List ℕ) (k : ℕ) (ops : List ℕ) (n : ℕ) → framing bs ≡ frame k ops n
+pub framing_within : (bs : List ℕ) (k : ℕ) (ops : List ℕ) (n : ℕ) → framing bs ≡ frame k ops n
     → (3 ≤ n) × (n ≤ length bs)
 framing_within (a ∷ b ∷ k ∷ bs) c ops n e =
     ⊎_elim
