@@ -2,6 +2,7 @@
 use Rattle.std.specs.Prelude.{ℕ, ◌+◌, ◌/◌, ◌%◌, ◌^◌, Bool, true, false, cond, ◌&&◌, ◌||◌, List, [], ◌∷◌, ◌++◌, map, length, Some, None, Option, ◌==◌, nat_le, nat_lt, slice_index}
 use Rattle.command_list.specs.declared.command.Half.{Half}
 use Rattle.command_list.specs.declared.command.Half.TheVariants.{Graphics, Compute}
+use Rattle.command_list.specs.Bits.{bit}
 use Rattle.command_list.specs.Commands.{Command, BeginEvent, EndEvent, SetDescriptorHeaps, OMSetRenderTargets, ClearRenderTargetView, RSSetViewports, RSSetScissorRects}
 use Rattle.labels.specs.Utf8.{is_utf8}
 use Rattle.labels.specs.Labels.{label_units}
@@ -38,12 +39,16 @@ abbrev pub target_of : ℕ → Option ColorAttachment → ℕ
 target_of null None = null
 target_of null (Some a) = a.target
 
--- bit 2 of the ops
+-- the flag LOAD_CLEAR, whose value is 2, is among the ops
 abbrev pub clears : ColorAttachment → Bool
-clears a = a.ops / 2 % 2 == 1
+clears a = bit a.ops 1
+
+-- the clear of a target to a colour
+abbrev pub clear_to : ℕ → List ℕ → Command
+clear_to t c = ClearRenderTargetView t (slice_index c 0) (slice_index c 1) (slice_index c 2) (slice_index c 3)
 
 abbrev pub clear_of : ColorAttachment → List Command
-clear_of a = cond (clears a) (ClearRenderTargetView a.target (slice_index a.clear_value 0) (slice_index a.clear_value 1) (slice_index a.clear_value 2) (slice_index a.clear_value 3) ∷ []) []
+clear_of a = cond (clears a) (clear_to a.target a.clear_value ∷ []) []
 
 abbrev pub clear_records : List (Option ColorAttachment) → List Command
 clear_records [] = []

@@ -139,7 +139,7 @@ unfoldable pub verdict : Scene → Call → Answer
 verdict s c =
     cond (offers s.stage c)
     (judged (asks s.own c (account_of s.stage))
-        (nat_le (sizes (records s.own c (account_of s.stage))) (start_of c s.meaning).space))
+    (nat_le (sizes (records s.own c (account_of s.stage))) (start_of c s.meaning).space))
     not_offered
 
 -- what a call does, from s to t, with its answer

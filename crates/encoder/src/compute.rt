@@ -37,13 +37,11 @@ impl<R: Recorder> ComputePass<R> {
         group: BindGroup<'_>,
         dynamic_offsets: &[u32],
     ) -> Result<(), Fault>
-        ensures {
-            Does (compute_scene R.meaning self.old)
-                (set (set_bind_group layout.now index group.entry.table
-                    group.entry.dynamic_buffers.now dynamic_offsets.now))
-                (answered result)
-                (compute_scene R.meaning self.new)
-        }
+        ensures { Does (compute_scene R.meaning self.old)
+            (set (set_bind_group layout.now index group.entry.table
+            group.entry.dynamic_buffers.now dynamic_offsets.now))
+            (answered result)
+            (compute_scene R.meaning self.new) }
     {
         self.pass
             .set_bind_group(layout, index, group, dynamic_offsets)
@@ -55,35 +53,29 @@ impl<R: Recorder> ComputePass<R> {
         offset_bytes: u32,
         words: &[u32],
     ) -> Result<(), Fault>
-        ensures {
-            Does (compute_scene R.meaning self.old)
-                (set (set_immediates layout.now offset_bytes words.now))
-                (answered result)
-                (compute_scene R.meaning self.new)
-        }
+        ensures { Does (compute_scene R.meaning self.old)
+            (set (set_immediates layout.now offset_bytes words.now))
+            (answered result)
+            (compute_scene R.meaning self.new) }
     {
         self.pass.set_immediates(layout, offset_bytes, words)
     }
 
     pub fn set_compute_pipeline(&mut self, pipeline: &ComputePipeline) -> Result<(), Fault>
-        ensures {
-            Does (compute_scene R.meaning self.old)
-                (set (set_compute_pipeline pipeline.now))
-                (answered result)
-                (compute_scene R.meaning self.new)
-        }
+        ensures { Does (compute_scene R.meaning self.old)
+            (set (set_compute_pipeline pipeline.now))
+            (answered result)
+            (compute_scene R.meaning self.new) }
     {
         record_compute_pipeline(&mut self.recorder, &mut self.pass, pipeline)
     }
 
     pub fn dispatch_workgroups(&mut self, count: [u32; 3]) -> Result<(), Fault>
-        ensures {
-            Does (compute_scene R.meaning self.old)
-                (drawing (dispatch (slice_index count 0) (slice_index count 1) (slice_index count
-                    2)))
-                (answered result)
-                (compute_scene R.meaning self.new)
-        }
+        ensures { Does (compute_scene R.meaning self.old)
+            (drawing (dispatch (slice_index count 0) (slice_index count 1) (slice_index count
+            2)))
+            (answered result)
+            (compute_scene R.meaning self.new) }
     {
         let [x, y, z] = count;
         let constants = SpecialConstants::from_dispatch(x, y, z);
@@ -97,12 +89,10 @@ impl<R: Recorder> ComputePass<R> {
     }
 
     pub fn dispatch_workgroups_indirect(&mut self, buffer: u32, offset: u64) -> Result<(), Fault>
-        ensures {
-            Does (compute_scene R.meaning self.old)
-                (drawing (dispatch_indirect buffer offset))
-                (answered result)
-                (compute_scene R.meaning self.new)
-        }
+        ensures { Does (compute_scene R.meaning self.old)
+            (drawing (dispatch_indirect buffer offset))
+            (answered result)
+            (compute_scene R.meaning self.new) }
     {
         if buffer == 0 {
             return Err(Number::Absent.at(0));
@@ -130,13 +120,11 @@ impl<R: Recorder> ComputePass<R> {
     ) -> Result<(), Fault>
         ensures lent { scratch.new.entries.ghost_name ≡ scratch.old.entries.ghost_name }
         ensures kept { Kept scratch.old.mark.fill scratch.new.mark.fill scratch.old.entries.now scratch.new.entries.now }
-        ensures does {
-            Does (compute_scene R.meaning self.old)
-                (quiet (transition_call (changes_of (λ u. buffer u.bits) barriers.now) (length
-                    scratch.old.entries.now) scratch.old.mark.fill))
-                (answered result)
-                (compute_scene R.meaning self.new)
-        }
+        ensures does { Does (compute_scene R.meaning self.old)
+            (quiet (transition_call (changes_of (λ u. buffer u.bits) barriers.now) (length
+            scratch.old.entries.now) scratch.old.mark.fill))
+            (answered result)
+            (compute_scene R.meaning self.new) }
     {
         transition(&mut self.recorder, scratch, barriers)
     }
@@ -148,30 +136,26 @@ impl<R: Recorder> ComputePass<R> {
     ) -> Result<(), Fault>
         ensures lent { scratch.new.entries.ghost_name ≡ scratch.old.entries.ghost_name }
         ensures kept { Kept scratch.old.mark.fill scratch.new.mark.fill scratch.old.entries.now scratch.new.entries.now }
-        ensures does {
-            Does (compute_scene R.meaning self.old)
-                (quiet (transition_call (changes_of (λ u. texture u.bits) barriers.now) (length
-                    scratch.old.entries.now) scratch.old.mark.fill))
-                (answered result)
-                (compute_scene R.meaning self.new)
-        }
+        ensures does { Does (compute_scene R.meaning self.old)
+            (quiet (transition_call (changes_of (λ u. texture u.bits) barriers.now) (length
+            scratch.old.entries.now) scratch.old.mark.fill))
+            (answered result)
+            (compute_scene R.meaning self.new) }
     {
         transition(&mut self.recorder, scratch, barriers)
     }
 
     // The end of the pass.
     pub fn end_compute_pass(self) -> Result<Recording<R>, Refusal<ComputePass<R>>>
-        ensures {
-            MatchResult result
-                (λ p. Does (compute_scene R.meaning self)
-                    (ending Compute)
-                    taken
-                    (list_scene R.meaning p))
-                (λ e. Does (compute_scene R.meaning self)
-                    (ending Compute)
-                    (refused (why_of e.fault))
-                    (compute_scene R.meaning e.phase))
-        }
+        ensures { MatchResult result
+            (λ p. Does (compute_scene R.meaning self)
+            (ending Compute)
+            taken
+            (list_scene R.meaning p))
+            (λ e. Does (compute_scene R.meaning self)
+            (ending Compute)
+            (refused (why_of e.fault))
+            (compute_scene R.meaning e.phase)) }
     {
         let ComputePass {
             mut recorder,
@@ -179,10 +163,7 @@ impl<R: Recorder> ComputePass<R> {
             pass,
         } = self;
         match record_ending(&mut recorder, pass.has_label) {
-            Ok(()) => Ok(Recording {
-                recorder,
-                own,
-            }),
+            Ok(()) => Ok(Recording { recorder, own }),
             Err(fault) => Err(Refusal {
                 phase: ComputePass {
                     recorder,
@@ -196,21 +177,16 @@ impl<R: Recorder> ComputePass<R> {
 
     // The list is given up with its pass.
     pub fn discard_encoding(self) -> Idle<R>
-        ensures {
-            Does (compute_scene R.meaning self)
-                discard_encoding
-                taken
-                (idle_scene R.meaning result)
-        }
+        ensures { Does (compute_scene R.meaning self)
+            discard_encoding
+            taken
+            (idle_scene R.meaning result) }
     {
         let ComputePass {
             recorder,
             own,
             pass: _,
         } = self;
-        Idle {
-            recorder,
-            own,
-        }
+        Idle { recorder, own }
     }
 }

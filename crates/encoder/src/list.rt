@@ -35,32 +35,21 @@ impl<R: Recorder> Idle<R> {
 
     // A list is begun: the recorder starts anew.
     pub fn begin_encoding(self) -> Recording<R>
-        ensures {
-            Does (idle_scene R.meaning self)
-                begin_encoding
-                taken
-                (list_scene R.meaning result)
-        }
+        ensures { Does (idle_scene R.meaning self)
+            begin_encoding
+            taken
+            (list_scene R.meaning result) }
     {
-        let Idle {
-            mut recorder,
-            own,
-        } = self;
+        let Idle { mut recorder, own } = self;
         recorder.start_anew();
-        Recording {
-            recorder,
-            own,
-        }
+        Recording { recorder, own }
     }
 
     // The recorder, with the list that was ended last.
     pub fn into_recorder(self) -> R
         ensures { result ≡ self.recorder }
     {
-        let Idle {
-            recorder,
-            own: _,
-        } = self;
+        let Idle { recorder, own: _ } = self;
         recorder
     }
 }
@@ -73,13 +62,11 @@ impl<R: Recorder> Recording<R> {
     ) -> Result<(), Fault>
         ensures lent { scratch.new.entries.ghost_name ≡ scratch.old.entries.ghost_name }
         ensures kept { Kept scratch.old.mark.fill scratch.new.mark.fill scratch.old.entries.now scratch.new.entries.now }
-        ensures does {
-            Does (list_scene R.meaning self.old)
-                (quiet (transition_call (changes_of (λ u. buffer u.bits) barriers.now) (length
-                    scratch.old.entries.now) scratch.old.mark.fill))
-                (answered result)
-                (list_scene R.meaning self.new)
-        }
+        ensures does { Does (list_scene R.meaning self.old)
+            (quiet (transition_call (changes_of (λ u. buffer u.bits) barriers.now) (length
+            scratch.old.entries.now) scratch.old.mark.fill))
+            (answered result)
+            (list_scene R.meaning self.new) }
     {
         transition(&mut self.recorder, scratch, barriers)
     }
@@ -91,53 +78,35 @@ impl<R: Recorder> Recording<R> {
     ) -> Result<(), Fault>
         ensures lent { scratch.new.entries.ghost_name ≡ scratch.old.entries.ghost_name }
         ensures kept { Kept scratch.old.mark.fill scratch.new.mark.fill scratch.old.entries.now scratch.new.entries.now }
-        ensures does {
-            Does (list_scene R.meaning self.old)
-                (quiet (transition_call (changes_of (λ u. texture u.bits) barriers.now) (length
-                    scratch.old.entries.now) scratch.old.mark.fill))
-                (answered result)
-                (list_scene R.meaning self.new)
-        }
+        ensures does { Does (list_scene R.meaning self.old)
+            (quiet (transition_call (changes_of (λ u. texture u.bits) barriers.now) (length
+            scratch.old.entries.now) scratch.old.mark.fill))
+            (answered result)
+            (list_scene R.meaning self.new) }
     {
         transition(&mut self.recorder, scratch, barriers)
     }
 
     // The list is whole.
     pub fn end_encoding(self) -> Idle<R>
-        ensures {
-            Does (list_scene R.meaning self)
-                end_encoding
-                taken
-                (idle_scene R.meaning result)
-        }
+        ensures { Does (list_scene R.meaning self)
+            end_encoding
+            taken
+            (idle_scene R.meaning result) }
     {
-        let Recording {
-            recorder,
-            own,
-        } = self;
-        Idle {
-            recorder,
-            own,
-        }
+        let Recording { recorder, own } = self;
+        Idle { recorder, own }
     }
 
     // The list is given up: what stands in the recorder is of no use.
     pub fn discard_encoding(self) -> Idle<R>
-        ensures {
-            Does (list_scene R.meaning self)
-                discard_encoding
-                taken
-                (idle_scene R.meaning result)
-        }
+        ensures { Does (list_scene R.meaning self)
+            discard_encoding
+            taken
+            (idle_scene R.meaning result) }
     {
-        let Recording {
-            recorder,
-            own,
-        } = self;
-        Idle {
-            recorder,
-            own,
-        }
+        let Recording { recorder, own } = self;
+        Idle { recorder, own }
     }
 
     // The opening of a render pass: a label's bytes, if it has one, its targets' extent, and its attachments, of which
@@ -149,24 +118,19 @@ impl<R: Recorder> Recording<R> {
         height: u32,
         attachments: &[Option<ColorAttachment>],
     ) -> Result<RenderPass<R>, Refusal<Recording<R>>>
-        ensures {
-            MatchResult result
-                (λ p. Does (list_scene R.meaning self)
-                    (opening (render_pass (option_map (λ b. b.now) label.entry) width height
-                        attachments.now))
-                    taken
-                    (render_scene R.meaning p))
-                (λ e. Does (list_scene R.meaning self)
-                    (opening (render_pass (option_map (λ b. b.now) label.entry) width height
-                        attachments.now))
-                    (refused (why_of e.fault))
-                    (list_scene R.meaning e.phase))
-        }
+        ensures { MatchResult result
+            (λ p. Does (list_scene R.meaning self)
+            (opening (render_pass (option_map (λ b. b.now) label.entry) width height
+            attachments.now))
+            taken
+            (render_scene R.meaning p))
+            (λ e. Does (list_scene R.meaning self)
+            (opening (render_pass (option_map (λ b. b.now) label.entry) width height
+            attachments.now))
+            (refused (why_of e.fault))
+            (list_scene R.meaning e.phase)) }
     {
-        let Recording {
-            mut recorder,
-            own,
-        } = self;
+        let Recording { mut recorder, own } = self;
         match open_render(
             &mut recorder,
             own.null_target,
@@ -181,10 +145,7 @@ impl<R: Recorder> Recording<R> {
                 pass: PassState::new(Half::Graphics, label.is_some()),
             }),
             Err(fault) => Err(Refusal {
-                phase: Recording {
-                    recorder,
-                    own,
-                },
+                phase: Recording { recorder, own },
                 fault,
             }),
         }
@@ -194,22 +155,17 @@ impl<R: Recorder> Recording<R> {
         self,
         label: Option<&[u8]>,
     ) -> Result<ComputePass<R>, Refusal<Recording<R>>>
-        ensures {
-            MatchResult result
-                (λ p. Does (list_scene R.meaning self)
-                    (opening (compute_pass (option_map (λ b. b.now) label.entry)))
-                    taken
-                    (compute_scene R.meaning p))
-                (λ e. Does (list_scene R.meaning self)
-                    (opening (compute_pass (option_map (λ b. b.now) label.entry)))
-                    (refused (why_of e.fault))
-                    (list_scene R.meaning e.phase))
-        }
+        ensures { MatchResult result
+            (λ p. Does (list_scene R.meaning self)
+            (opening (compute_pass (option_map (λ b. b.now) label.entry)))
+            taken
+            (compute_scene R.meaning p))
+            (λ e. Does (list_scene R.meaning self)
+            (opening (compute_pass (option_map (λ b. b.now) label.entry)))
+            (refused (why_of e.fault))
+            (list_scene R.meaning e.phase)) }
     {
-        let Recording {
-            mut recorder,
-            own,
-        } = self;
+        let Recording { mut recorder, own } = self;
         match open_compute(&mut recorder, label) {
             Ok(()) => Ok(ComputePass {
                 recorder,
@@ -217,10 +173,7 @@ impl<R: Recorder> Recording<R> {
                 pass: PassState::new(Half::Compute, label.is_some()),
             }),
             Err(fault) => Err(Refusal {
-                phase: Recording {
-                    recorder,
-                    own,
-                },
+                phase: Recording { recorder, own },
                 fault,
             }),
         }

@@ -1,9 +1,9 @@
 // What openings and endings of passes record.
-ghost use Rattle.std.specs.Prelude.{◌≡◌, ℕ, ◌≤◌, true, [], ◌∷◌, ◌++◌, length, map, None, option_map};
+ghost use Rattle.std.specs.Prelude.{◌≡◌, ℕ, ◌≤◌, true, [], ◌∷◌, ◌++◌, length, map, take, None, option_map};
 ghost use Rattle.command_list.specs.Commands.{SetDescriptorHeaps, OMSetRenderTargets, size};
 ghost use Rattle.device.specs.Meaning.{sizes};
 ghost use Rattle.encoder.specs.Opening.{target_of, clears, clear_records, no_target, render_pass, compute_pass, asks_opening, opening_records, ending_records};
-ghost use Rattle.encoder.specs.Putting.{Put, Offered, event_records, CanBegin, frame_records};
+ghost use Rattle.encoder.specs.Putting.{Put, Offered, event_records, CanBegin, frame_records, colour_of, HaveTargets};
 ghost use Rattle.command_list.specs.Refusals.{fault_at, fault_of};
 
 use crate::attachment::{ColorAttachment, MAX_COLOR_ATTACHMENTS};
@@ -47,50 +47,49 @@ fn check_targets(null_target: u64, attachments: &[Option<ColorAttachment>]) -> R
     Ok(())
 }
 
-// The targets, in their order.
-fn put_targets<R: Recorder>(
-    recorder: &mut R,
+// The handles of the targets, each at its attachment's place.
+fn bound_targets(
     null_target: u64,
     attachments: &[Option<ColorAttachment>],
-) -> Result<(), Fault>
-    requires few { length attachments.now ≤ 8 }
-    requires fits { size (OMSetRenderTargets (map (target_of null_target) attachments.now)) ≤ (R.meaning recorder.old).space }
-    ensures { Put (R.meaning recorder.old) (OMSetRenderTargets (map (target_of null_target) attachments.now) ∷ []) result (R.meaning recorder.new) }
+) -> [u64; MAX_COLOR_ATTACHMENTS]
+    requires { length attachments.now ≤ 8 }
+    ensures { take (length attachments.now) result ≡ map (target_of null_target) attachments.now }
 {
     let mut targets = [0; MAX_COLOR_ATTACHMENTS];
     for place in 0..attachments.len() {
         targets[place] = target(null_target, &attachments[place]);
     }
-    put(
-        recorder,
-        Command::OMSetRenderTargets(&targets[..attachments.len()]),
-    )
+    targets
+}
+
+// The first targets are bound, in their order.
+fn put_targets<R: Recorder>(
+    recorder: &mut R,
+    targets: [u64; MAX_COLOR_ATTACHMENTS],
+    count: usize,
+) -> Result<(), Fault>
+    requires few { count ≤ 8 }
+    requires fits { size (OMSetRenderTargets (take count targets)) ≤ (R.meaning recorder.old).space }
+    ensures { Put (R.meaning recorder.old) (OMSetRenderTargets (take count targets) ∷ [])
+        result (R.meaning recorder.new) }
+{
+    put(recorder, Command::OMSetRenderTargets(&targets[..count]))
 }
 
 // Whether an attachment is cleared at the opening.
 fn is_cleared(attachment: &ColorAttachment) -> bool
     ensures { result ≡ clears attachment.now }
 {
-    attachment.ops >> 1 & 1 == 1
+    attachment.ops & ColorAttachment::LOAD_CLEAR != 0
 }
 
-// A clear of an attachment, if it is there and is cleared.
-fn put_clear<R: Recorder>(
-    recorder: &mut R,
-    attachment: &Option<ColorAttachment>,
-) -> Result<(), Fault>
-    requires { sizes (clear_records (attachment.now ∷ [])) ≤ (R.meaning recorder.old).space }
-    ensures { Put (R.meaning recorder.old) (clear_records (attachment.now ∷ [])) result (R.meaning recorder.new) }
+// The colour that an attachment is cleared to, if it is there and is cleared.
+fn clear_colour(attachment: &Option<ColorAttachment>) -> Option<[u32; 4]>
+    ensures { result ≡ colour_of attachment.now }
 {
     match *attachment {
-        Some(a) if is_cleared(&a) => put(
-            recorder,
-            Fixed::ClearRenderTargetView {
-                target: a.target,
-                colour: a.clear_value,
-            },
-        ),
-        _ => Ok(()),
+        Some(a) if is_cleared(&a) => Some(a.clear_value),
+        _ => None,
     }
 }
 
@@ -99,9 +98,9 @@ fn clear_size(attachment: &Option<ColorAttachment>) -> usize
     ensures value { result ≡ sizes (clear_records (attachment.now ∷ [])) }
     ensures small { result ≤ 27 }
 {
-    match *attachment {
-        Some(a) if is_cleared(&a) => CLEAR_BYTES,
-        _ => 0,
+    match clear_colour(attachment) {
+        Some(_) => CLEAR_BYTES,
+        None => 0,
     }
 }
 
@@ -118,16 +117,23 @@ fn clears_size(attachments: &[Option<ColorAttachment>]) -> usize
     size
 }
 
-// All clears, in the attachments' order.
+// All clears, in the attachments' order, each of the target at its place.
 fn put_clears<R: Recorder>(
     recorder: &mut R,
+    targets: [u64; MAX_COLOR_ATTACHMENTS],
     attachments: &[Option<ColorAttachment>],
 ) -> Result<(), Fault>
-    requires { sizes (clear_records attachments.now) ≤ (R.meaning recorder.old).space }
-    ensures { Put (R.meaning recorder.old) (clear_records attachments.now) result (R.meaning recorder.new) }
+    requires few { length attachments.now ≤ 8 }
+    requires bound { HaveTargets targets attachments.now }
+    requires fits { sizes (clear_records attachments.now) ≤ (R.meaning recorder.old).space }
+    ensures { Put (R.meaning recorder.old) (clear_records attachments.now)
+        result (R.meaning recorder.new) }
 {
     for place in 0..attachments.len() {
-        put_clear(recorder, &attachments[place])?;
+        if let Some(colour) = clear_colour(&attachments[place]) {
+            let target = targets[place];
+            put(recorder, Fixed::ClearRenderTargetView { target, colour })?;
+        }
     }
     Ok(())
 }
@@ -176,8 +182,9 @@ fn record_render<R: Recorder>(
     }
     put_event(recorder, units)?;
     put(recorder, Fixed::SetDescriptorHeaps(true))?;
-    put_targets(recorder, null_target, attachments)?;
-    put_clears(recorder, attachments)?;
+    let targets = bound_targets(null_target, attachments);
+    put_targets(recorder, targets, attachments.len())?;
+    put_clears(recorder, targets, attachments)?;
     put(recorder, Fixed::RSSetViewports(extent.viewport()))?;
     put(
         recorder,

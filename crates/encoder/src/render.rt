@@ -33,13 +33,11 @@ impl<R: Recorder> RenderPass<R> {
         group: BindGroup<'_>,
         dynamic_offsets: &[u32],
     ) -> Result<(), Fault>
-        ensures {
-            Does (render_scene R.meaning self.old)
-                (set (set_bind_group layout.now index group.entry.table
-                    group.entry.dynamic_buffers.now dynamic_offsets.now))
-                (answered result)
-                (render_scene R.meaning self.new)
-        }
+        ensures { Does (render_scene R.meaning self.old)
+            (set (set_bind_group layout.now index group.entry.table
+            group.entry.dynamic_buffers.now dynamic_offsets.now))
+            (answered result)
+            (render_scene R.meaning self.new) }
     {
         self.pass
             .set_bind_group(layout, index, group, dynamic_offsets)
@@ -51,59 +49,49 @@ impl<R: Recorder> RenderPass<R> {
         offset_bytes: u32,
         words: &[u32],
     ) -> Result<(), Fault>
-        ensures {
-            Does (render_scene R.meaning self.old)
-                (set (set_immediates layout.now offset_bytes words.now))
-                (answered result)
-                (render_scene R.meaning self.new)
-        }
+        ensures { Does (render_scene R.meaning self.old)
+            (set (set_immediates layout.now offset_bytes words.now))
+            (answered result)
+            (render_scene R.meaning self.new) }
     {
         self.pass.set_immediates(layout, offset_bytes, words)
     }
 
     pub fn set_render_pipeline(&mut self, pipeline: &RenderPipeline) -> Result<(), Fault>
-        ensures {
-            Does (render_scene R.meaning self.old)
-                (set (set_render_pipeline pipeline.now))
-                (answered result)
-                (render_scene R.meaning self.new)
-        }
+        ensures { Does (render_scene R.meaning self.old)
+            (set (set_render_pipeline pipeline.now))
+            (answered result)
+            (render_scene R.meaning self.new) }
     {
         record_render_pipeline(&mut self.recorder, &mut self.pass, pipeline)
     }
 
     pub fn set_vertex_buffer(&mut self, index: u32, binding: BufferBinding) -> Result<(), Fault>
-        ensures {
-            Does (render_scene R.meaning self.old)
-                (set (set_vertex_buffer index binding))
-                (answered result)
-                (render_scene R.meaning self.new)
-        }
+        ensures { Does (render_scene R.meaning self.old)
+            (set (set_vertex_buffer index binding))
+            (answered result)
+            (render_scene R.meaning self.new) }
     {
         self.pass.set_vertex_buffer(index, binding)
     }
 
     // Six float patterns: x, y, width, height, least and greatest depth.
     pub fn set_viewport(&mut self, viewport: [u32; 6]) -> Result<(), Fault>
-        ensures {
-            Does (render_scene R.meaning self.old)
-                (quiet (set_viewport (slice_index viewport 0) (slice_index viewport 1) (slice_index
-                    viewport 2) (slice_index viewport 3) (slice_index viewport 4) (slice_index
-                    viewport 5)))
-                (answered result)
-                (render_scene R.meaning self.new)
-        }
+        ensures { Does (render_scene R.meaning self.old)
+            (quiet (set_viewport (slice_index viewport 0) (slice_index viewport 1) (slice_index
+            viewport 2) (slice_index viewport 3) (slice_index viewport 4) (slice_index
+            viewport 5)))
+            (answered result)
+            (render_scene R.meaning self.new) }
     {
         self.recorder.rs_set_viewports(viewport)
     }
 
     pub fn set_scissor_rect(&mut self, rect: Rect) -> Result<(), Fault>
-        ensures {
-            Does (render_scene R.meaning self.old)
-                (quiet (set_scissor_rect rect.x rect.y rect.w rect.h))
-                (answered result)
-                (render_scene R.meaning self.new)
-        }
+        ensures { Does (render_scene R.meaning self.old)
+            (quiet (set_scissor_rect rect.x rect.y rect.w rect.h))
+            (answered result)
+            (render_scene R.meaning self.new) }
     {
         let ends = rect.bounds()?;
         self.recorder
@@ -117,12 +105,10 @@ impl<R: Recorder> RenderPass<R> {
         first_instance: u32,
         instance_count: u32,
     ) -> Result<(), Fault>
-        ensures {
-            Does (render_scene R.meaning self.old)
-                (drawing (draw first_vertex vertex_count first_instance instance_count))
-                (answered result)
-                (render_scene R.meaning self.new)
-        }
+        ensures { Does (render_scene R.meaning self.old)
+            (drawing (draw first_vertex vertex_count first_instance instance_count))
+            (answered result)
+            (render_scene R.meaning self.new) }
     {
         let constants = SpecialConstants::from_draw(first_vertex, first_instance);
         let command = Fixed::DrawInstanced {
@@ -141,12 +127,10 @@ impl<R: Recorder> RenderPass<R> {
     }
 
     pub fn draw_indirect(&mut self, buffer: u32, offset: u64, draw_count: u32) -> Result<(), Fault>
-        ensures {
-            Does (render_scene R.meaning self.old)
-                (drawing (draw_indirect buffer offset draw_count))
-                (answered result)
-                (render_scene R.meaning self.new)
-        }
+        ensures { Does (render_scene R.meaning self.old)
+            (drawing (draw_indirect buffer offset draw_count))
+            (answered result)
+            (render_scene R.meaning self.new) }
     {
         if buffer == 0 {
             return Err(Number::Absent.at(0));
@@ -169,17 +153,15 @@ impl<R: Recorder> RenderPass<R> {
 
     // The end of the pass.
     pub fn end_render_pass(self) -> Result<Recording<R>, Refusal<RenderPass<R>>>
-        ensures {
-            MatchResult result
-                (λ p. Does (render_scene R.meaning self)
-                    (ending Graphics)
-                    taken
-                    (list_scene R.meaning p))
-                (λ e. Does (render_scene R.meaning self)
-                    (ending Graphics)
-                    (refused (why_of e.fault))
-                    (render_scene R.meaning e.phase))
-        }
+        ensures { MatchResult result
+            (λ p. Does (render_scene R.meaning self)
+            (ending Graphics)
+            taken
+            (list_scene R.meaning p))
+            (λ e. Does (render_scene R.meaning self)
+            (ending Graphics)
+            (refused (why_of e.fault))
+            (render_scene R.meaning e.phase)) }
     {
         let RenderPass {
             mut recorder,
@@ -187,10 +169,7 @@ impl<R: Recorder> RenderPass<R> {
             pass,
         } = self;
         match record_ending(&mut recorder, pass.has_label) {
-            Ok(()) => Ok(Recording {
-                recorder,
-                own,
-            }),
+            Ok(()) => Ok(Recording { recorder, own }),
             Err(fault) => Err(Refusal {
                 phase: RenderPass {
                     recorder,
@@ -204,21 +183,16 @@ impl<R: Recorder> RenderPass<R> {
 
     // The list is given up with its pass.
     pub fn discard_encoding(self) -> Idle<R>
-        ensures {
-            Does (render_scene R.meaning self)
-                discard_encoding
-                taken
-                (idle_scene R.meaning result)
-        }
+        ensures { Does (render_scene R.meaning self)
+            discard_encoding
+            taken
+            (idle_scene R.meaning result) }
     {
         let RenderPass {
             recorder,
             own,
             pass: _,
         } = self;
-        Idle {
-            recorder,
-            own,
-        }
+        Idle { recorder, own }
     }
 }
