@@ -11,8 +11,8 @@ pub struct ColorAttachment {
     /// The descriptor handle of the target's view. 0 is no handle: the opening refuses it with 3,
     /// at the attachment's index.
     pub target: u64,
-    /// Flags as `wgpu-hal`'s `AttachmentOps` has them. Only [`ColorAttachment::LOAD_CLEAR`] is read:
-    /// the others are the host's own.
+    /// Flags as `wgpu-hal`'s `AttachmentOps` has them. Only [`ColorAttachment::LOAD_CLEAR`] is
+    /// read: the others are the host's own.
     pub ops: u32,
     /// The colour that the target is cleared to: red, green, blue and alpha, each the bits of an
     /// `f32`.

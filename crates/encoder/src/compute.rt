@@ -31,15 +31,16 @@ use resources::uses::{BufferUses, TextureUses};
 const DISPATCH_BYTES: usize = 15;
 
 impl<R: Recorder> ComputePass<R> {
-    /// Sets a bind group of the pass: its descriptor table, and the addresses of its uniform buffers
-    /// with their dynamic offsets in bytes. Nothing is recorded before the next dispatch, which writes
-    /// the dirty root slots by `SetComputeRootDescriptorTable` and
+    /// Sets a bind group of the pass: its descriptor table, and the addresses of its uniform
+    /// buffers with their dynamic offsets in bytes. Nothing is recorded before the next dispatch,
+    /// which writes the dirty root slots by `SetComputeRootDescriptorTable` and
     /// `SetComputeRootConstantBufferView`.
     ///
-    /// Refusals: 1 for an index of 8 or more; 3 where the layout has no such group, or where the group
-    /// has a table and the one given is 0; 4 where there are not as many buffers as offsets, or not as
-    /// many as the layout says; 5 at the index of the first address that comes to 2^64 or more; 6
-    /// where the layout has the root signature of the current one and is not equal to it.
+    /// Refusals: 1 for an index of 8 or more; 3 where the layout has no such group, or where the
+    /// group has a table and the one given is 0; 4 where there are not as many buffers as
+    /// offsets, or not as many as the layout says; 5 at the index of the first address that comes
+    /// to 2^64 or more; 6 where the layout has the root signature of the current one and is not
+    /// equal to it.
     pub fn set_bind_group(
         &mut self,
         layout: &PipelineLayout,
@@ -57,13 +58,13 @@ impl<R: Recorder> ComputePass<R> {
             .set_bind_group(layout, index, group, dynamic_offsets)
     }
 
-    /// Writes words of the root constants that the shaders read as immediates, from an offset in bytes
-    /// on. Nothing is recorded before the next dispatch, which writes them by
+    /// Writes words of the root constants that the shaders read as immediates, from an offset in
+    /// bytes on. Nothing is recorded before the next dispatch, which writes them by
     /// `SetComputeRoot32BitConstant`.
     ///
-    /// Refusals: 1 where the offset is no multiple of 4 or the words end past 32; 3 where the layout
-    /// has no immediates; 6 where the layout has the root signature of the current one and is not
-    /// equal to it.
+    /// Refusals: 1 where the offset is no multiple of 4 or the words end past 32; 3 where the
+    /// layout has no immediates; 6 where the layout has the root signature of the current one and
+    /// is not equal to it.
     pub fn set_immediates(
         &mut self,
         layout: &PipelineLayout,
@@ -78,11 +79,11 @@ impl<R: Recorder> ComputePass<R> {
         self.pass.set_immediates(layout, offset_bytes, words)
     }
 
-    /// Sets the pipeline: `SetComputeRootSignature`, where another root signature was set last in this
-    /// pass or the current layout's is another, and then `SetPipelineState`.
+    /// Sets the pipeline: `SetComputeRootSignature`, where another root signature was set last in
+    /// this pass or the current layout's is another, and then `SetPipelineState`.
     ///
-    /// Refusals: 3 where the pipeline is 0; 6 where its layout has the root signature of the current
-    /// one and is not equal to it; 10 where the records do not fit the space.
+    /// Refusals: 3 where the pipeline is 0; 6 where its layout has the root signature of the
+    /// current one and is not equal to it; 10 where the records do not fit the space.
     pub fn set_compute_pipeline(&mut self, pipeline: &ComputePipeline) -> Result<(), Fault>
         ensures { Does (compute_scene R.meaning self.old)
             (set (set_compute_pipeline pipeline.now))
@@ -92,12 +93,12 @@ impl<R: Recorder> ComputePass<R> {
         record_compute_pipeline(&mut self.recorder, &mut self.pass, pipeline)
     }
 
-    /// Dispatches so many groups of threads along x, y and z: the dirty root slots are written, and
-    /// then `Dispatch` is recorded.
+    /// Dispatches so many groups of threads along x, y and z: the dirty root slots are written,
+    /// and then `Dispatch` is recorded.
     ///
-    /// Refusals: 7 where no pipeline was set in this pass, or its root signature is not the current
-    /// layout's; 8 at the lowest root slot of the layout that holds nothing, or something of another
-    /// kind than its owner; 10 where the records do not fit the space.
+    /// Refusals: 7 where no pipeline was set in this pass, or its root signature is not the
+    /// current layout's; 8 at the lowest root slot of the layout that holds nothing, or something
+    /// of another kind than its owner; 10 where the records do not fit the space.
     pub fn dispatch_workgroups(&mut self, count: [u32; 3]) -> Result<(), Fault>
         ensures { Does (compute_scene R.meaning self.old)
             (drawing (dispatch
@@ -116,9 +117,9 @@ impl<R: Recorder> ComputePass<R> {
         )
     }
 
-    /// Dispatches with the counts that stand in a buffer, `offset` bytes from its start: the dirty
-    /// root slots are written, and then `ExecuteIndirect` is recorded with a count of 1. Where the
-    /// layout has a command signature of its own, that writes the special constants.
+    /// Dispatches with the counts that stand in a buffer, `offset` bytes from its start: the
+    /// dirty root slots are written, and then `ExecuteIndirect` is recorded with a count of 1.
+    /// Where the layout has a command signature of its own, that writes the special constants.
     ///
     /// Refusals: 3 where the buffer is 0; 7, 8 and 10 as for
     /// [`dispatch_workgroups`](ComputePass::dispatch_workgroups).
@@ -147,13 +148,13 @@ impl<R: Recorder> ComputePass<R> {
         )
     }
 
-    /// Changes the usages of buffers, by one `ResourceBarrier` that has the barriers of all changes in
-    /// their order; nothing is recorded where no change makes a barrier. The barriers are made in
-    /// `scratch`, from its fill on.
+    /// Changes the usages of buffers, by one `ResourceBarrier` that has the barriers of all
+    /// changes in their order; nothing is recorded where no change makes a barrier. The barriers
+    /// are made in `scratch`, from its fill on.
     ///
-    /// Refusals: 1 for a usage of 512 or more, and 3 for a resource that is 0, each at the index of
-    /// its change; 9 where the scratch has more than 2048 entries or no room for the barriers; 10
-    /// where the record does not fit the space.
+    /// Refusals: 1 for a usage of 512 or more, and 3 for a resource that is 0, each at the index
+    /// of its change; 9 where the scratch has more than 2048 entries or no room for the barriers;
+    /// 10 where the record does not fit the space.
     pub fn transition_buffers(
         &mut self,
         scratch: &mut Scratch,
@@ -171,13 +172,13 @@ impl<R: Recorder> ComputePass<R> {
         transition::<BufferUses, R>(&mut self.recorder, scratch, barriers)
     }
 
-    /// Changes the usages of textures, by one `ResourceBarrier` that has the barriers of all changes in
-    /// their order; nothing is recorded where no change makes a barrier. The barriers are made in
-    /// `scratch`, from its fill on.
+    /// Changes the usages of textures, by one `ResourceBarrier` that has the barriers of all
+    /// changes in their order; nothing is recorded where no change makes a barrier. The barriers
+    /// are made in `scratch`, from its fill on.
     ///
-    /// Refusals: 1 for a usage of 1024 or more, and 3 for a resource that is 0, each at the index of
-    /// its change; 9 where the scratch has more than 2048 entries or no room for the barriers; 10
-    /// where the record does not fit the space.
+    /// Refusals: 1 for a usage of 1024 or more, and 3 for a resource that is 0, each at the index
+    /// of its change; 9 where the scratch has more than 2048 entries or no room for the barriers;
+    /// 10 where the record does not fit the space.
     pub fn transition_textures(
         &mut self,
         scratch: &mut Scratch,
@@ -195,7 +196,8 @@ impl<R: Recorder> ComputePass<R> {
         transition::<TextureUses, R>(&mut self.recorder, scratch, barriers)
     }
 
-    /// Ends the pass: `SetDescriptorHeaps` with no heaps, and `EndEvent` where the opening had a label.
+    /// Ends the pass: `SetDescriptorHeaps` with no heaps, and `EndEvent` where the opening had a
+    /// label.
     ///
     /// Refused with 10 where the records do not fit the space; the pass is handed back.
     pub fn end_compute_pass(self) -> Result<Recording<R>, Refusal<ComputePass<R>>>

@@ -23,8 +23,8 @@ use resources::scratch::Scratch;
 use resources::uses::{BufferUses, TextureUses};
 
 impl<R: Recorder> Idle<R> {
-    /// An encoder over a recorder. `null_target` is the descriptor handle that a render pass binds in
-    /// place of an attachment that is left out (`null_rtv_handle` of `wgpu-hal`).
+    /// An encoder over a recorder. `null_target` is the descriptor handle that a render pass
+    /// binds in place of an attachment that is left out (`null_rtv_handle` of `wgpu-hal`).
     pub fn new(recorder: R, null_target: u64) -> Idle<R>
         ensures recorder { result.recorder ≡ recorder }
         ensures scene { idle_scene R.meaning result ≡ fresh null_target (R.meaning recorder) }
@@ -35,7 +35,8 @@ impl<R: Recorder> Idle<R> {
         }
     }
 
-    /// Begins a list: the recorder starts anew (`ID3D12GraphicsCommandList::Reset`). Never refused.
+    /// Begins a list: the recorder starts anew (`ID3D12GraphicsCommandList::Reset`). Never
+    /// refused.
     pub fn begin_encoding(self) -> Recording<R>
         ensures { Does (idle_scene R.meaning self)
             begin_encoding
@@ -57,13 +58,13 @@ impl<R: Recorder> Idle<R> {
 }
 
 impl<R: Recorder> Recording<R> {
-    /// Changes the usages of buffers, by one `ResourceBarrier` that has the barriers of all changes in
-    /// their order; nothing is recorded where no change makes a barrier. The barriers are made in
-    /// `scratch`, from its fill on.
+    /// Changes the usages of buffers, by one `ResourceBarrier` that has the barriers of all
+    /// changes in their order; nothing is recorded where no change makes a barrier. The barriers
+    /// are made in `scratch`, from its fill on.
     ///
-    /// Refusals: 1 for a usage of 512 or more, and 3 for a resource that is 0, each at the index of
-    /// its change; 9 where the scratch has more than 2048 entries or no room for the barriers; 10
-    /// where the record does not fit the space.
+    /// Refusals: 1 for a usage of 512 or more, and 3 for a resource that is 0, each at the index
+    /// of its change; 9 where the scratch has more than 2048 entries or no room for the barriers;
+    /// 10 where the record does not fit the space.
     pub fn transition_buffers(
         &mut self,
         scratch: &mut Scratch,
@@ -81,13 +82,13 @@ impl<R: Recorder> Recording<R> {
         transition::<BufferUses, R>(&mut self.recorder, scratch, barriers)
     }
 
-    /// Changes the usages of textures, by one `ResourceBarrier` that has the barriers of all changes in
-    /// their order; nothing is recorded where no change makes a barrier. The barriers are made in
-    /// `scratch`, from its fill on.
+    /// Changes the usages of textures, by one `ResourceBarrier` that has the barriers of all
+    /// changes in their order; nothing is recorded where no change makes a barrier. The barriers
+    /// are made in `scratch`, from its fill on.
     ///
-    /// Refusals: 1 for a usage of 1024 or more, and 3 for a resource that is 0, each at the index of
-    /// its change; 9 where the scratch has more than 2048 entries or no room for the barriers; 10
-    /// where the record does not fit the space.
+    /// Refusals: 1 for a usage of 1024 or more, and 3 for a resource that is 0, each at the index
+    /// of its change; 9 where the scratch has more than 2048 entries or no room for the barriers;
+    /// 10 where the record does not fit the space.
     pub fn transition_textures(
         &mut self,
         scratch: &mut Scratch,
@@ -105,7 +106,8 @@ impl<R: Recorder> Recording<R> {
         transition::<TextureUses, R>(&mut self.recorder, scratch, barriers)
     }
 
-    /// Ends the list (`ID3D12GraphicsCommandList::Close`). The recorder has it whole. Never refused.
+    /// Ends the list (`ID3D12GraphicsCommandList::Close`). The recorder has it whole. Never
+    /// refused.
     pub fn end_encoding(self) -> Idle<R>
         ensures { Does (list_scene R.meaning self)
             end_encoding
@@ -135,14 +137,14 @@ impl<R: Recorder> Recording<R> {
 
     /// Opens a render pass: `BeginEvent` with the label, if there is one, `SetDescriptorHeaps`,
     /// `OMSetRenderTargets`, a `ClearRenderTargetView` for each attachment with
-    /// [`ColorAttachment::LOAD_CLEAR`], and `RSSetViewports` and `RSSetScissorRects` over the whole
-    /// extent. The label is UTF-8, width and height count texels, and the null target stands in for
-    /// an attachment that is left out.
+    /// [`ColorAttachment::LOAD_CLEAR`], and `RSSetViewports` and `RSSetScissorRects` over the
+    /// whole extent. The label is UTF-8, width and height count texels, and the null target
+    /// stands in for an attachment that is left out.
     ///
-    /// Refusals: 1 at place 8 for more than 8 attachments; 1 for a width or height of 0 or above 16384;
-    /// 1 for a label of more than 256 bytes, 2 for one that is not UTF-8; 3 at the index of the first
-    /// attachment whose target, or the null target in its place, is 0; 10 where the records do not fit
-    /// the space. The list is handed back.
+    /// Refusals: 1 at place 8 for more than 8 attachments; 1 for a width or height of 0 or above
+    /// 16384; 1 for a label of more than 256 bytes, 2 for one that is not UTF-8; 3 at the index
+    /// of the first attachment whose target, or the null target in its place, is 0; 10 where the
+    /// records do not fit the space. The list is handed back.
     pub fn begin_render_pass(
         self,
         label: Option<&[u8]>,
@@ -178,7 +180,8 @@ impl<R: Recorder> Recording<R> {
         }
     }
 
-    /// Opens a compute pass: `BeginEvent` with the label, if there is one, and `SetDescriptorHeaps`.
+    /// Opens a compute pass: `BeginEvent` with the label, if there is one, and
+    /// `SetDescriptorHeaps`.
     ///
     /// Refusals: 1 for a label of more than 256 bytes, 2 for one that is not UTF-8; 10 where the
     /// records do not fit the space. The list is handed back.

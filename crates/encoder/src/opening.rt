@@ -1,4 +1,4 @@
-// What openings and endings of passes record.
+//! What openings and endings of passes record.
 ghost use Rattle.std.specs.Prelude.{◌≡◌, ℕ, ◌≤◌, true, [], ◌∷◌, ◌++◌, length, map, take, None, option_map};
 ghost use Rattle.command_list.specs.Commands.{SetDescriptorHeaps, OMSetRenderTargets, size};
 ghost use Rattle.device.specs.Meaning.{sizes};
@@ -14,8 +14,8 @@ use command_list::fault::{FULL, Fault, Number};
 use device::recorder::Recorder;
 use labels::label::Label;
 
-// The bytes of the records: heaps, targets with none of them, each target, a clear, a viewport with a scissor, the end
-// of an event.
+// The bytes of the records: heaps, targets with none of them, each target, a clear, a viewport with
+// a scissor rectangle, the end of an event.
 const HEAPS_BYTES: usize = 4;
 
 const TARGETS_BYTES: usize = 4;
@@ -172,7 +172,10 @@ fn record_render<R: Recorder>(
 ) -> Result<(), Fault>
     requires begins { CanBegin units.now }
     requires few { length attachments.now ≤ 8 }
-    ensures { Offered (fault_at 3 (no_target 0 null_target attachments.now)) (event_records units.now ++ frame_records null_target extent.width extent.height attachments.now) (R.meaning recorder.old) result (R.meaning recorder.new) }
+    ensures { let frame = frame_records null_target extent.width extent.height attachments.now in
+        Offered (fault_at 3 (no_target 0 null_target attachments.now))
+        (event_records units.now ++ frame) (R.meaning recorder.old)
+        result (R.meaning recorder.new) }
 {
     check_targets(null_target, attachments)?;
     let targets_size = TARGETS_BYTES + TARGET_BYTES * attachments.len();
@@ -200,7 +203,8 @@ fn record_render<R: Recorder>(
 // A compute pass's label and heaps.
 fn record_compute<R: Recorder>(recorder: &mut R, units: &[u16]) -> Result<(), Fault>
     requires { CanBegin units.now }
-    ensures { Offered None (event_records units.now ++ (SetDescriptorHeaps true ∷ [])) (R.meaning recorder.old) result (R.meaning recorder.new) }
+    ensures { Offered None (event_records units.now ++ (SetDescriptorHeaps true ∷ []))
+        (R.meaning recorder.old) result (R.meaning recorder.new) }
 {
     if recorder.space() < event_size(units) + HEAPS_BYTES {
         return Err(FULL);
@@ -211,7 +215,8 @@ fn record_compute<R: Recorder>(recorder: &mut R, units: &[u16]) -> Result<(), Fa
 
 // The end of a pass: heaps off, and the end of its label's event.
 pub(crate) fn record_ending<R: Recorder>(recorder: &mut R, labelled: bool) -> Result<(), Fault>
-    ensures { Offered None (ending_records labelled) (R.meaning recorder.old) result (R.meaning recorder.new) }
+    ensures { Offered None (ending_records labelled) (R.meaning recorder.old)
+        result (R.meaning recorder.new) }
 {
     let event_bytes = if labelled { EVENT_END_BYTES } else { 0 };
     if recorder.space() < HEAPS_BYTES + event_bytes {
@@ -233,7 +238,10 @@ pub(crate) fn open_render<R: Recorder>(
     height: u32,
     attachments: &[Option<ColorAttachment>],
 ) -> Result<(), Fault>
-    ensures { Offered (asks_opening null_target (render_pass (option_map (λ b. b.now) label.entry) width height attachments.now)) (opening_records null_target (render_pass (option_map (λ b. b.now) label.entry) width height attachments.now)) (R.meaning recorder.old) result (R.meaning recorder.new) }
+    ensures { let bytes = option_map (λ b. b.now) label.entry in
+        let pass = render_pass bytes width height attachments.now in
+        Offered (asks_opening null_target pass) (opening_records null_target pass)
+        (R.meaning recorder.old) result (R.meaning recorder.new) }
 {
     if attachments.len() > MAX_COLOR_ATTACHMENTS {
         return Err(Number::Range.at(MAX_COLOR_ATTACHMENTS));
@@ -250,7 +258,9 @@ pub(crate) fn open_render<R: Recorder>(
 
 // The opening of a compute pass.
 pub(crate) fn open_compute<R: Recorder>(recorder: &mut R, label: Option<&[u8]>) -> Result<(), Fault>
-    ensures { (null : ℕ) → Offered (asks_opening null (compute_pass (option_map (λ b. b.now) label.entry))) (opening_records null (compute_pass (option_map (λ b. b.now) label.entry))) (R.meaning recorder.old) result (R.meaning recorder.new) }
+    ensures { let pass = compute_pass (option_map (λ b. b.now) label.entry) in
+        (null : ℕ) → Offered (asks_opening null pass) (opening_records null pass)
+        (R.meaning recorder.old) result (R.meaning recorder.new) }
 {
     match label {
         None => record_compute(recorder, &[]),

@@ -1,5 +1,6 @@
-//! The phases of an encoder. Each has its own calls, and a call that begins or ends a list or a pass
-//! makes the next phase of the one before it. `wgpu-hal` has one `CommandEncoder` for all of them.
+//! The phases of an encoder. Each has its own calls, and a call that begins or ends a list or a
+//! pass makes the next phase of the one before it. `wgpu-hal` has one `CommandEncoder` for all of
+//! them.
 ghost use Rattle.std.specs.Prelude.{◌≡◌, true};
 ghost use Rattle.command_list.specs.declared.command.Half.TheVariants.{Graphics, Compute};
 ghost use Rattle.encoder.specs.Scenes.{same_half};

@@ -26,15 +26,16 @@ use passes::state::BindGroup;
 const DRAW_BYTES: usize = 19;
 
 impl<R: Recorder> RenderPass<R> {
-    /// Sets a bind group of the pass: its descriptor table, and the addresses of its uniform buffers
-    /// with their dynamic offsets in bytes. Nothing is recorded before the next draw, which writes
-    /// the dirty root slots by `SetGraphicsRootDescriptorTable` and
+    /// Sets a bind group of the pass: its descriptor table, and the addresses of its uniform
+    /// buffers with their dynamic offsets in bytes. Nothing is recorded before the next draw,
+    /// which writes the dirty root slots by `SetGraphicsRootDescriptorTable` and
     /// `SetGraphicsRootConstantBufferView`.
     ///
-    /// Refusals: 1 for an index of 8 or more; 3 where the layout has no such group, or where the group
-    /// has a table and the one given is 0; 4 where there are not as many buffers as offsets, or not as
-    /// many as the layout says; 5 at the index of the first address that comes to 2^64 or more; 6
-    /// where the layout has the root signature of the current one and is not equal to it.
+    /// Refusals: 1 for an index of 8 or more; 3 where the layout has no such group, or where the
+    /// group has a table and the one given is 0; 4 where there are not as many buffers as
+    /// offsets, or not as many as the layout says; 5 at the index of the first address that comes
+    /// to 2^64 or more; 6 where the layout has the root signature of the current one and is not
+    /// equal to it.
     pub fn set_bind_group(
         &mut self,
         layout: &PipelineLayout,
@@ -52,13 +53,13 @@ impl<R: Recorder> RenderPass<R> {
             .set_bind_group(layout, index, group, dynamic_offsets)
     }
 
-    /// Writes words of the root constants that the shaders read as immediates, from an offset in bytes
-    /// on. Nothing is recorded before the next draw, which writes them by
+    /// Writes words of the root constants that the shaders read as immediates, from an offset in
+    /// bytes on. Nothing is recorded before the next draw, which writes them by
     /// `SetGraphicsRoot32BitConstant`.
     ///
-    /// Refusals: 1 where the offset is no multiple of 4 or the words end past 32; 3 where the layout
-    /// has no immediates; 6 where the layout has the root signature of the current one and is not
-    /// equal to it.
+    /// Refusals: 1 where the offset is no multiple of 4 or the words end past 32; 3 where the
+    /// layout has no immediates; 6 where the layout has the root signature of the current one and
+    /// is not equal to it.
     pub fn set_immediates(
         &mut self,
         layout: &PipelineLayout,
@@ -73,12 +74,13 @@ impl<R: Recorder> RenderPass<R> {
         self.pass.set_immediates(layout, offset_bytes, words)
     }
 
-    /// Sets the pipeline: `SetGraphicsRootSignature`, where another root signature was set last in this
-    /// pass or the current layout's is another, and then `SetPipelineState` and
-    /// `IASetPrimitiveTopology`. A vertex slot to which the pipeline gives another stride is dirty.
+    /// Sets the pipeline: `SetGraphicsRootSignature`, where another root signature was set last
+    /// in this pass or the current layout's is another, and then `SetPipelineState` and
+    /// `IASetPrimitiveTopology`. A vertex slot to which the pipeline gives another stride is
+    /// dirty.
     ///
-    /// Refusals: 3 where the pipeline is 0; 6 where its layout has the root signature of the current
-    /// one and is not equal to it; 10 where the records do not fit the space.
+    /// Refusals: 3 where the pipeline is 0; 6 where its layout has the root signature of the
+    /// current one and is not equal to it; 10 where the records do not fit the space.
     pub fn set_render_pipeline(&mut self, pipeline: &RenderPipeline) -> Result<(), Fault>
         ensures { Does (render_scene R.meaning self.old)
             (set (set_render_pipeline pipeline.now))
@@ -91,8 +93,8 @@ impl<R: Recorder> RenderPass<R> {
     /// Binds a part of a buffer to a vertex slot. Nothing is recorded before the next draw, which
     /// writes the dirty slots by `IASetVertexBuffers`.
     ///
-    /// Refusals: 1 for a slot of 16 or more; 5 where the offset lies past the buffer's end, the address
-    /// comes to 2^64 or more, or the size to 2^32 or more.
+    /// Refusals: 1 for a slot of 16 or more; 5 where the offset lies past the buffer's end, the
+    /// address comes to 2^64 or more, or the size to 2^32 or more.
     pub fn set_vertex_buffer(&mut self, index: u32, binding: BufferBinding) -> Result<(), Fault>
         ensures { Does (render_scene R.meaning self.old)
             (set (set_vertex_buffer index binding))
@@ -102,8 +104,8 @@ impl<R: Recorder> RenderPass<R> {
         self.pass.set_vertex_buffer(index, binding)
     }
 
-    /// Sets the viewport by `RSSetViewports`: x, y, width, height, least and greatest depth, each the
-    /// bits of an `f32`.
+    /// Sets the viewport by `RSSetViewports`: x, y, width, height, least and greatest depth, each
+    /// the bits of an `f32`.
     ///
     /// Refused with 10 where the record does not fit the space.
     pub fn set_viewport(&mut self, viewport: [u32; 6]) -> Result<(), Fault>
@@ -119,7 +121,8 @@ impl<R: Recorder> RenderPass<R> {
 
     /// Sets the scissor rectangle by `RSSetScissorRects`, which takes its right and lower ends.
     ///
-    /// Refusals: 5 where an end comes to 2^31 or more; 10 where the record does not fit the space.
+    /// Refusals: 5 where an end comes to 2^31 or more; 10 where the record does not fit the
+    /// space.
     pub fn set_scissor_rect(&mut self, rect: Rect) -> Result<(), Fault>
         ensures { Does (render_scene R.meaning self.old)
             (quiet (set_scissor_rect rect.x rect.y rect.w rect.h))
@@ -131,11 +134,12 @@ impl<R: Recorder> RenderPass<R> {
             .rs_set_scissor_rects(ends.left, ends.top, ends.right, ends.bottom)
     }
 
-    /// Draws: the dirty vertex slots and root slots are written, and then `DrawInstanced` is recorded.
+    /// Draws: the dirty vertex slots and root slots are written, and then `DrawInstanced` is
+    /// recorded.
     ///
-    /// Refusals: 7 where no pipeline was set in this pass, or its root signature is not the current
-    /// layout's; 8 at the lowest root slot of the layout that holds nothing, or something of another
-    /// kind than its owner; 10 where the records do not fit the space.
+    /// Refusals: 7 where no pipeline was set in this pass, or its root signature is not the
+    /// current layout's; 8 at the lowest root slot of the layout that holds nothing, or something
+    /// of another kind than its owner; 10 where the records do not fit the space.
     pub fn draw(
         &mut self,
         first_vertex: u32,
@@ -164,9 +168,9 @@ impl<R: Recorder> RenderPass<R> {
         )
     }
 
-    /// Draws with arguments that stand in a buffer, `offset` bytes from its start, `draw_count` times:
-    /// the dirty slots are written, and then `ExecuteIndirect` is recorded. Where the layout has a
-    /// command signature of its own, that writes the special constants.
+    /// Draws with arguments that stand in a buffer, `offset` bytes from its start, `draw_count`
+    /// times: the dirty slots are written, and then `ExecuteIndirect` is recorded. Where the
+    /// layout has a command signature of its own, that writes the special constants.
     ///
     /// Refusals: 3 where the buffer is 0; 7, 8 and 10 as for [`draw`](RenderPass::draw).
     pub fn draw_indirect(&mut self, buffer: u32, offset: u64, draw_count: u32) -> Result<(), Fault>
@@ -194,7 +198,8 @@ impl<R: Recorder> RenderPass<R> {
         )
     }
 
-    /// Ends the pass: `SetDescriptorHeaps` with no heaps, and `EndEvent` where the opening had a label.
+    /// Ends the pass: `SetDescriptorHeaps` with no heaps, and `EndEvent` where the opening had a
+    /// label.
     ///
     /// Refused with 10 where the records do not fit the space; the pass is handed back.
     pub fn end_render_pass(self) -> Result<Recording<R>, Refusal<RenderPass<R>>>
