@@ -1,5 +1,5 @@
 -- The first attachment without a target.
-use Rattle.std.proofs.Common.{◌≡◌, ℕ, ◌<◌, Bool, true, false, ltb, List, Some, None, Option, arith}
+use Rattle.std.proofs.Common.{◌≡◌, ℕ, ◌<◌, true, false, List, Some, None, Option, arith}
 use Rattle.std.proofs.lemmas.Bool.{ltb-true, ltb-false}
 use Rattle.command_list.specs.Refusals.{FirstOf}
 use Rattle.command_list.proofs.Refusing.{first_law}

@@ -19,4 +19,5 @@ Says null os (Some i) = FirstWithout null os i
 Says null os None = (k : ℕ) → k < length os → HasTarget null os k
 
 abbrev pub RefusalsAreFirst : Type 0
-RefusalsAreFirst = (null : ℕ) (os : List (Option ColorAttachment)) → Says null os (no_target 0 null os)
+RefusalsAreFirst =
+    (null : ℕ) (os : List (Option ColorAttachment)) → Says null os (no_target 0 null os)

@@ -69,7 +69,8 @@ fn put_targets<R: Recorder>(
     count: usize,
 ) -> Result<(), Fault>
     requires few { count ≤ 8 }
-    requires fits { size (OMSetRenderTargets (take count targets)) ≤ (R.meaning recorder.old).space }
+    requires fits { size (OMSetRenderTargets (take count targets))
+        ≤ (R.meaning recorder.old).space }
     ensures { Put (R.meaning recorder.old) (OMSetRenderTargets (take count targets) ∷ [])
         result (R.meaning recorder.new) }
 {
@@ -154,7 +155,8 @@ fn event_size(units: &[u16]) -> usize
 fn put_event<R: Recorder>(recorder: &mut R, units: &[u16]) -> Result<(), Fault>
     requires begins { CanBegin units.now }
     requires fits { sizes (event_records units.now) ≤ (R.meaning recorder.old).space }
-    ensures { Put (R.meaning recorder.old) (event_records units.now) result (R.meaning recorder.new) }
+    ensures { Put (R.meaning recorder.old) (event_records units.now)
+        result (R.meaning recorder.new) }
 {
     if units.is_empty() {
         return Ok(());
