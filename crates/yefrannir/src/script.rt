@@ -1,4 +1,5 @@
-// A script that is run: its calls are offered to an encoder over list bytes, and what becomes of each line is told.
+// A run of a script: its calls are offered to an encoder over list bytes, and each line is printed
+// with what became of it.
 ghost use Rattle.std.specs.Prelude.{◌≤◌, length, IfOk};
 
 use crate::failure::Failure;
@@ -22,7 +23,7 @@ use std::alloc::Global;
 // How many entries a scratch has at the start, which are the most that calls take.
 const MOST_ENTRIES: usize = 2048;
 
-// An entry of a scratch that no barrier was put in.
+/// An entry of a scratch that no barrier was put in.
 pub(crate) const FREE: Barrier = Barrier {
     kind: BarrierType::Uav,
     resource: 0,
@@ -34,7 +35,7 @@ pub(crate) const FREE: Barrier = Barrier {
 // The line that begins a list.
 const BEGINS: &str = "begin_encoding";
 
-// What the lines so far have set, and what was told of them.
+/// What the lines so far have set, and what was printed of them.
 #[derive(Drop)]
 pub(crate) struct Session {
     alloc: Global,
@@ -48,6 +49,7 @@ pub(crate) struct Session {
 }
 
 impl Session {
+    /// A session before its first line, whose lists have so many bytes.
     pub(crate) fn new(alloc: Global, space: usize, with_pass: bool) -> Result<Session, Failure> {
         Ok(Session {
             alloc,
@@ -61,7 +63,7 @@ impl Session {
         })
     }
 
-    // What was told of the lines.
+    /// What was printed of the lines.
     pub(crate) fn told(&self) -> &str {
         self.told.as_str()
     }
@@ -128,15 +130,15 @@ impl Session {
         })
     }
 
-    // Tells the record of a pass.
+    // Tells the state of a pass.
     fn tell_pass(&mut self, pass: &PassState) -> Result<(), Failure> {
         let shown = ShownPass(pass);
         writeln!(self.told, "  {shown}")?;
         Ok(())
     }
 
-    // Tells what became of a line: its records, or why it was not done, and the record of the pass. Of a pass that the
-    // line gave up, that is as it was left.
+    // Tells what became of a line: its records, or why it was not done, and the state of the pass.
+    // A pass that the line gave up is shown as it was left.
     fn tell<R: Readable>(
         &mut self,
         phase: &Phase<R>,
@@ -179,8 +181,8 @@ impl Session {
         (phase, told)
     }
 
-    // Does a line and those behind it over a new encoder, up to where the next list begins. The recorder back, and how
-    // many lines behind the first were done.
+    // Does a line and those behind it over a new encoder, up to where the next list begins. Returns
+    // the recorder, and how many lines behind the first were done.
     fn do_list<R: Recorder + Readable>(
         &mut self,
         recorder: R,
@@ -203,7 +205,8 @@ impl Session {
         (phase.into_recorder(), told.map(|()| lines.len()))
     }
 
-    // Does one list in these bytes. How long it is, and how many lines behind the first were done.
+    // Does one list in these bytes. Returns its length, and how many lines behind the first were
+    // done.
     fn do_bytes(
         &mut self,
         bytes: &mut [u8],
@@ -217,7 +220,7 @@ impl Session {
         Ok((end, done?))
     }
 
-    // Does the lines of a script. The last list.
+    /// Does the lines of a script, and returns the last list.
     pub(crate) fn run(&mut self, script: &str) -> Result<Vec<u8>, Failure> {
         let lines: Vec<&str> = script
             .lines()
