@@ -50,9 +50,13 @@ module _ (len fill : ℕ) where
   made_more [] (y ∷ bs) ns run c b a m p q all one = absurd (omega (arith, p))
   made_more (x ∷ cs) [] ns run c b a m p q all one = absurd (omega (arith, p))
   made_more (x ∷ cs) (y ∷ bs) [] run c b a m p q all one = absurd (omega (arith, q))
-  made_more (x ∷ cs) (y ∷ bs) (n ∷ ns) run c b a m p q all one =
-      (all.0, all.1 ++ (m ∷ []), ap (λ l. l ++ (m ∷ [])) all.2 ∙ append_assoc all.0 all.1 (m ∷ []), all.3,
-       made_more cs bs ns all.1 c b a m (omega (arith, p)) (omega (arith, q)) all.4 one)
+  made_more (x ∷ cs) (y ∷ bs) (n ∷ ns) run c b a m p q all one = (
+    all.0,
+    all.1 ++ (m ∷ []),
+    ap (λ l. l ++ (m ∷ [])) all.2 ∙ append_assoc all.0 all.1 (m ∷ []),
+    all.3,
+    made_more cs bs ns all.1 c b a m (omega (arith, p)) (omega (arith, q)) all.4 one,
+  )
 
   made_whole : (i : ℕ) (cs : List Call) (bs ns : List Answer) (run : List Moment) → i ≡ min (length cs) (length bs) → length ns ≡ length bs
       → AllMade len fill (take i cs) (take i bs) (take i ns) run → drop i ns ≡ drop i bs → AllMade len fill cs bs ns run

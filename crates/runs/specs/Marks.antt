@@ -113,7 +113,7 @@ pub record Stands (c : DrawCall) (later : Moment) (since ever : List Moment) (e 
   -- each root slot of the layout holds the account's value, the draw's own constants among them
   pub holds : (k : ℕ) → k < layout.total_root_elements
       → Holds (value_at (account_at later).half (prepared c (account_at later).roots) k)
-          ((d.halves (account_at later).half).slots k)
+      ((d.halves (account_at later).half).slots k)
   -- and that is a value, of an element of its owner's kind, but for the slot that an indirect call with a command
   -- signature of its own writes itself
   pub known : (k : ℕ) → k < layout.total_root_elements → (wiped_slot (own_constants c) (Some layout) ≢ Some k)

@@ -1,4 +1,4 @@
-// A call with its operands.
+//! A call of an encoder as a value, with its operands, and what it is answered.
 ghost use Rattle.std.specs.Prelude.{◌≡◌};
 ghost use Rattle.runs.specs.Leaving.{leaves};
 
@@ -11,6 +11,8 @@ use layouts::pipeline::{ComputePipeline, RenderPipeline};
 use passes::state::BindGroup;
 use resources::barrier::{BufferBarrier, TextureBarrier};
 
+/// A call of an encoder. The cases have the names and operands of the phases' methods; which phase offers which call is
+/// in docs/CALLS.md. (`command_list::command::Call` is another thing: a command with its lists.)
 #[derive(Clone, Copy)]
 pub enum Call<'a> {
     BeginEncoding,
@@ -84,10 +86,13 @@ impl Call<'_> {
     }
 }
 
-// What a call was answered.
+/// What a call was answered.
 #[derive(Clone, Copy)]
 pub enum Answer {
+    /// It was taken, and all its commands were recorded.
     Taken,
+    /// It was refused, and left everything as it was.
     Refused(Fault),
+    /// The encoder's phase has no such call. Nothing was asked or changed.
     NotOffered,
 }

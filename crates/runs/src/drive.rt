@@ -21,13 +21,9 @@ pub fn drive<R: Recorder>(
     answers: &mut [Answer],
 ) -> Phase<R>
     ensures lent { scratch.new.entries.ghost_name ≡ scratch.old.entries.ghost_name }
-    ensures kept {
-        Kept scratch.old.mark.fill scratch.new.mark.fill scratch.old.entries.now scratch.new.entries.now
-    }
-    ensures driven {
-        Driven (fresh null_target (R.meaning recorder)) (length scratch.old.entries.now)
-            scratch.old.mark.fill calls.now answers.old answers.new (phase_scene R.meaning result)
-    }
+    ensures kept { Kept scratch.old.mark.fill scratch.new.mark.fill scratch.old.entries.now scratch.new.entries.now }
+    ensures driven { Driven (fresh null_target (R.meaning recorder)) (length scratch.old.entries.now)
+        scratch.old.mark.fill calls.now answers.old answers.new (phase_scene R.meaning result) }
 {
     let mut phase = Phase::Idle(Idle::new(recorder, null_target));
     for i in 0..calls.len().min(answers.len()) {
@@ -45,13 +41,9 @@ pub fn encode<R: Recorder>(
     answers: &mut [Answer],
 ) -> R
     ensures lent { scratch.new.entries.ghost_name ≡ scratch.old.entries.ghost_name }
-    ensures kept {
-        Kept scratch.old.mark.fill scratch.new.mark.fill scratch.old.entries.now scratch.new.entries.now
-    }
-    ensures encoded {
-        Encoded (fresh null_target (R.meaning recorder)) (length scratch.old.entries.now)
-            scratch.old.mark.fill calls.now answers.old answers.new (R.meaning result)
-    }
+    ensures kept { Kept scratch.old.mark.fill scratch.new.mark.fill scratch.old.entries.now scratch.new.entries.now }
+    ensures encoded { Encoded (fresh null_target (R.meaning recorder)) (length scratch.old.entries.now)
+        scratch.old.mark.fill calls.now answers.old answers.new (R.meaning result) }
 {
     drive(recorder, null_target, scratch, calls, answers).into_recorder()
 }

@@ -1,4 +1,5 @@
-// Whole runs of an encoder.
+//! Whole runs of an encoder: calls as values, made one after the other of an encoder in whichever phase it is, and what
+//! is promised of every run.
 #![tactic(auto)]
 
 pub mod call;

@@ -9,10 +9,10 @@ ghost use Rattle.runs.specs.Leaving.{leaves};
 
 use crate::call::{Answer, Call};
 use command_list::fault::Fault;
+use core::mem::replace_with;
 use device::recorder::Recorder;
 use encoder::phase::{ComputePass, Idle, Recording, Refusal, RenderPass};
 use resources::scratch::Scratch;
-use core::mem::replace_with;
 
 /// An encoder in one of its four phases.
 pub enum Phase<R> {
@@ -49,7 +49,10 @@ fn answer_of(outcome: Result<(), Fault>) -> Answer
 
 // A call that begins a list.
 fn leave_idle<R: Recorder>(idle: Idle<R>, call: &Call<'_>) -> (Phase<R>, Answer)
-    ensures { (len fill : ℕ) → Does (idle_scene R.meaning idle) (call_of len fill call.now) (told result.1) (phase_scene R.meaning result.0) }
+    ensures { (len fill : ℕ) → Does (idle_scene R.meaning idle)
+        (call_of len fill call.now)
+        (told result.1)
+        (phase_scene R.meaning result.0) }
 {
     match *call {
         Call::BeginEncoding => (Phase::Recording(idle.begin_encoding()), Answer::Taken),
@@ -60,7 +63,10 @@ fn leave_idle<R: Recorder>(idle: Idle<R>, call: &Call<'_>) -> (Phase<R>, Answer)
 // A call that begins a pass or ends a list.
 fn leave_list<R: Recorder>(list: Recording<R>, call: &Call<'_>) -> (Phase<R>, Answer)
     requires { leaves call.now ≡ true }
-    ensures { (len fill : ℕ) → Does (list_scene R.meaning list) (call_of len fill call.now) (told result.1) (phase_scene R.meaning result.0) }
+    ensures { (len fill : ℕ) → Does (list_scene R.meaning list)
+        (call_of len fill call.now)
+        (told result.1)
+        (phase_scene R.meaning result.0) }
 {
     match *call {
         Call::EndEncoding => (Phase::Idle(list.end_encoding()), Answer::Taken),
@@ -85,7 +91,10 @@ fn leave_list<R: Recorder>(list: Recording<R>, call: &Call<'_>) -> (Phase<R>, An
 // A call that ends a render pass.
 fn leave_render<R: Recorder>(pass: RenderPass<R>, call: &Call<'_>) -> (Phase<R>, Answer)
     requires { leaves call.now ≡ true }
-    ensures { (len fill : ℕ) → Does (render_scene R.meaning pass) (call_of len fill call.now) (told result.1) (phase_scene R.meaning result.0) }
+    ensures { (len fill : ℕ) → Does (render_scene R.meaning pass)
+        (call_of len fill call.now)
+        (told result.1)
+        (phase_scene R.meaning result.0) }
 {
     match *call {
         Call::DiscardEncoding => (Phase::Idle(pass.discard_encoding()), Answer::Taken),
@@ -100,7 +109,10 @@ fn leave_render<R: Recorder>(pass: RenderPass<R>, call: &Call<'_>) -> (Phase<R>,
 // A call that ends a compute pass.
 fn leave_compute<R: Recorder>(pass: ComputePass<R>, call: &Call<'_>) -> (Phase<R>, Answer)
     requires { leaves call.now ≡ true }
-    ensures { (len fill : ℕ) → Does (compute_scene R.meaning pass) (call_of len fill call.now) (told result.1) (phase_scene R.meaning result.0) }
+    ensures { (len fill : ℕ) → Does (compute_scene R.meaning pass)
+        (call_of len fill call.now)
+        (told result.1)
+        (phase_scene R.meaning result.0) }
 {
     match *call {
         Call::DiscardEncoding => (Phase::Idle(pass.discard_encoding()), Answer::Taken),
@@ -115,7 +127,10 @@ fn leave_compute<R: Recorder>(pass: ComputePass<R>, call: &Call<'_>) -> (Phase<R
 // A call that leaves its phase where it is taken.
 pub(crate) fn leave<R: Recorder>(phase: Phase<R>, call: &Call<'_>) -> (Phase<R>, Answer)
     requires { leaves call.now ≡ true }
-    ensures { (len fill : ℕ) → Does (phase_scene R.meaning phase) (call_of len fill call.now) (told result.1) (phase_scene R.meaning result.0) }
+    ensures { (len fill : ℕ) → Does (phase_scene R.meaning phase)
+        (call_of len fill call.now)
+        (told result.1)
+        (phase_scene R.meaning result.0) }
 {
     match phase {
         Phase::Idle(idle) => leave_idle(idle, call),
@@ -129,7 +144,10 @@ fn keep_list<R: Recorder>(list: &mut Recording<R>, scratch: &mut Scratch, call: 
     requires { leaves call.now ≡ false }
     ensures lent { scratch.new.entries.ghost_name ≡ scratch.old.entries.ghost_name }
     ensures kept { Kept scratch.old.mark.fill scratch.new.mark.fill scratch.old.entries.now scratch.new.entries.now }
-    ensures does { Does (list_scene R.meaning list.old) (call_of (length scratch.old.entries.now) scratch.old.mark.fill call.now) (told result) (list_scene R.meaning list.new) }
+    ensures does { Does (list_scene R.meaning list.old)
+        (call_of (length scratch.old.entries.now) scratch.old.mark.fill call.now)
+        (told result)
+        (list_scene R.meaning list.new) }
 {
     match *call {
         Call::TransitionBuffers(barriers) => answer_of(list.transition_buffers(scratch, barriers)),
@@ -142,7 +160,10 @@ fn keep_list<R: Recorder>(list: &mut Recording<R>, scratch: &mut Scratch, call: 
 
 fn keep_render<R: Recorder>(pass: &mut RenderPass<R>, call: &Call<'_>) -> Answer
     requires { leaves call.now ≡ false }
-    ensures { (len fill : ℕ) → Does (render_scene R.meaning pass.old) (call_of len fill call.now) (told result) (render_scene R.meaning pass.new) }
+    ensures { (len fill : ℕ) → Does (render_scene R.meaning pass.old)
+        (call_of len fill call.now)
+        (told result)
+        (render_scene R.meaning pass.new) }
 {
     match *call {
         Call::SetBindGroup {
@@ -185,7 +206,10 @@ fn keep_compute<R: Recorder>(
     requires { leaves call.now ≡ false }
     ensures lent { scratch.new.entries.ghost_name ≡ scratch.old.entries.ghost_name }
     ensures kept { Kept scratch.old.mark.fill scratch.new.mark.fill scratch.old.entries.now scratch.new.entries.now }
-    ensures does { Does (compute_scene R.meaning pass.old) (call_of (length scratch.old.entries.now) scratch.old.mark.fill call.now) (told result) (compute_scene R.meaning pass.new) }
+    ensures does { Does (compute_scene R.meaning pass.old)
+        (call_of (length scratch.old.entries.now) scratch.old.mark.fill call.now)
+        (told result)
+        (compute_scene R.meaning pass.new) }
 {
     match *call {
         Call::SetBindGroup {
@@ -221,7 +245,10 @@ pub(crate) fn keep<R: Recorder>(
     requires { leaves call.now ≡ false }
     ensures lent { scratch.new.entries.ghost_name ≡ scratch.old.entries.ghost_name }
     ensures kept { Kept scratch.old.mark.fill scratch.new.mark.fill scratch.old.entries.now scratch.new.entries.now }
-    ensures does { Does (phase_scene R.meaning phase.old) (call_of (length scratch.old.entries.now) scratch.old.mark.fill call.now) (told result) (phase_scene R.meaning phase.new) }
+    ensures does { Does (phase_scene R.meaning phase.old)
+        (call_of (length scratch.old.entries.now) scratch.old.mark.fill call.now)
+        (told result)
+        (phase_scene R.meaning phase.new) }
 {
     match phase {
         Phase::Idle(_) => Answer::NotOffered,
@@ -235,15 +262,11 @@ pub(crate) fn keep<R: Recorder>(
 /// by a call that begins or ends a list or a pass.
 pub fn step<R: Recorder>(phase: &mut Phase<R>, scratch: &mut Scratch, call: Call<'_>) -> Answer
     ensures lent { scratch.new.entries.ghost_name ≡ scratch.old.entries.ghost_name }
-    ensures kept {
-        Kept scratch.old.mark.fill scratch.new.mark.fill scratch.old.entries.now scratch.new.entries.now
-    }
-    ensures does {
-        Does (phase_scene R.meaning phase.old)
-            (call_of (length scratch.old.entries.now) scratch.old.mark.fill call.entry)
-            (told result)
-            (phase_scene R.meaning phase.new)
-    }
+    ensures kept { Kept scratch.old.mark.fill scratch.new.mark.fill scratch.old.entries.now scratch.new.entries.now }
+    ensures does { Does (phase_scene R.meaning phase.old)
+        (call_of (length scratch.old.entries.now) scratch.old.mark.fill call.entry)
+        (told result)
+        (phase_scene R.meaning phase.new) }
 {
     if call.leaves_phase() {
         return replace_with(phase, &call, leave);
@@ -258,15 +281,11 @@ pub fn offer<R: Recorder>(
     call: Call<'_>,
 ) -> (Phase<R>, Answer)
     ensures lent { scratch.new.entries.ghost_name ≡ scratch.old.entries.ghost_name }
-    ensures kept {
-        Kept scratch.old.mark.fill scratch.new.mark.fill scratch.old.entries.now scratch.new.entries.now
-    }
-    ensures does {
-        Does (phase_scene R.meaning phase)
-            (call_of (length scratch.old.entries.now) scratch.old.mark.fill call.entry)
-            (told result.1)
-            (phase_scene R.meaning result.0)
-    }
+    ensures kept { Kept scratch.old.mark.fill scratch.new.mark.fill scratch.old.entries.now scratch.new.entries.now }
+    ensures does { Does (phase_scene R.meaning phase)
+        (call_of (length scratch.old.entries.now) scratch.old.mark.fill call.entry)
+        (told result.1)
+        (phase_scene R.meaning result.0) }
 {
     let mut phase = phase;
     let answer = step(&mut phase, scratch, call);
