@@ -1,12 +1,19 @@
 // Statements that have no code of their own, but stand on functions that can be called.
+use encoder::laws::refusals_are_first as openings_are_refused_at_the_first;
+use labels::laws::utf8_is_unicodes;
 use layouts::laws::{equal_layouts_are_one, every_layout_is_whole};
-use runs::laws::{bad_encoders_are_excluded, every_run_keeps, worked_plots};
+use passes::laws::refusals_are_first as calls_are_refused_at_the_first;
+use runs::laws::{bad_encoders_are_excluded, every_run_keeps, every_run_shows, worked_plots};
 
 #[test]
-fn laws_of_every_layout_and_every_run() {
+fn laws_of_layouts_texts_calls_and_runs() {
     every_layout_is_whole();
     equal_layouts_are_one();
+    utf8_is_unicodes();
+    calls_are_refused_at_the_first();
+    openings_are_refused_at_the_first();
     every_run_keeps();
+    every_run_shows();
     bad_encoders_are_excluded();
     worked_plots();
 }

@@ -7,37 +7,47 @@ ghost use Rattle.resources.specs.Batches.{Kept};
 ghost use Rattle.list_bytes.specs.Listed.{HoldsList};
 ghost use Rattle.list_encode.specs.Reads.{ReadsBack};
 
-use command_list::fault::Fault;
+use command_list::fault::{FULL, Fault};
+use command_list::reader::MOST_BYTES;
 use list_bytes::ListBytes;
 use resources::scratch::Scratch;
 use runs::call::{Answer, Call};
 use runs::drive::encode;
 
+/// Bytes that cannot hold a list: they are handed back as they were.
+#[derive(Drop)]
+pub struct Unfit<'a> {
+    pub bytes: &'a mut [u8],
+    pub fault: Fault,
+}
+
 /// Drives an encoder over the caller's bytes, of which there are 1 to 65536, and gives the list file that it leaves at
 /// their front. One byte holds a list with no command. A list that the calls do not end is given up, and its commands
 /// stand in the file all the same.
 ///
-/// Refused with 10 for no bytes and for more than 65536: then no call is made, and the caller's bytes are as they were.
+/// Refused with 10 for no bytes and for more than 65536: then no call is made, and the bytes are handed back.
 pub fn encode_list<'a>(
     bytes: &'a mut [u8],
     null_target: u64,
     scratch: &mut Scratch,
     calls: &[Call<'_>],
     answers: &mut [Answer],
-) -> Result<&'a [u8], Fault>
+) -> Result<&'a [u8], Unfit<'a>>
     ensures lent { scratch.new.entries.ghost_name ≡ scratch.old.entries.ghost_name }
-    ensures kept {
-        Kept scratch.old.mark.fill scratch.new.mark.fill scratch.old.entries.now scratch.new.entries.now
-    }
-    ensures reads {
-        MatchResult result
-            (λ list. HoldsList (length bytes.old)
-                × ReadsBack null_target (length bytes.old) (length scratch.old.entries.now)
-                    scratch.old.mark.fill calls.now answers.old answers.new list.now)
-            (λ f. IsFault f 10 0 × (HoldsList (length bytes.old) → ⊥) × (answers.new ≡ answers.old))
-    }
+    ensures kept { Kept scratch.old.mark.fill scratch.new.mark.fill scratch.old.entries.now scratch.new.entries.now }
+    ensures reads { MatchResult result
+        (λ list. HoldsList (length bytes.old)
+        × ReadsBack null_target (length bytes.old) (length scratch.old.entries.now)
+        scratch.old.mark.fill calls.now answers.old answers.new list.now)
+        (λ e. IsFault e.fault 10 0 × (HoldsList (length bytes.old) → ⊥)
+        × (e.bytes.now ≡ bytes.old) × (answers.new ≡ answers.old)) }
 {
-    let list = ListBytes::new(bytes)?;
+    if bytes.is_empty() || bytes.len() > MOST_BYTES {
+        return Err(Unfit { bytes, fault: FULL });
+    }
+    let Ok(list) = ListBytes::new(bytes) else {
+        unreachable!()
+    };
     let list = encode(list, null_target, scratch, calls, answers);
     let (end, bytes) = list.finish();
     Ok(&bytes[0..end])

@@ -26,7 +26,8 @@ fn encoded<'a>(bytes: &'a mut [u8]) -> Result<(&'a [u8], [Answer; CALLS]), Fault
     };
     let mut answers = [Answer::NotOffered; CALLS];
     let pipeline = season_plot::pipeline(season_plot::layout(true)?);
-    let list = encode_list(bytes, 0, &mut scratch, &calls(&pipeline), &mut answers)?;
+    let list = encode_list(bytes, 0, &mut scratch, &calls(&pipeline), &mut answers)
+        .map_err(|unfit| unfit.fault)?;
     Ok((list, answers))
 }
 

@@ -56,7 +56,7 @@ pub(crate) fn plot_list<'a>(
     };
     let mut answers = [Answer::NotOffered; CALLS];
     let list = encode_list(bytes, 0, &mut scratch, &calls(pipeline), &mut answers).map_err(
-        |fault| refusal(alloc, NAME, fault),
+        |unfit| refusal(alloc, NAME, unfit.fault),
     )?;
     all_taken(alloc, &answers)?;
     Ok(list)

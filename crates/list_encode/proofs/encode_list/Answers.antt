@@ -6,7 +6,7 @@ use Rattle.list_encode.proofs.encode_list.Goals as goal
 
 pub returns-clause-reads : goal.returns-clause-reads
 returns-clause-reads c =
-    let o = c.in_ok-list.ensures in
+    let o = c.in-Ok.ensures in
     let holds = o.taken.0 refl in
     let e = c.encode-list.ensures.encoded in
     let l = c.encode-list.result in
