@@ -1,5 +1,5 @@
 -- The owners of a layout's slots, and the values of elements that fit them.
-use Rattle.std.proofs.Common.{◌≡◌, ℕ, zero, suc, ◌+◌, ◌<◌, ◌≤◌, Bool, true, false, cond, [], ◌∷◌, is_some, Some, None, Option, sym, refl, ap, ◌∙◌, subst, ◌⊎◌, inl, inr, ⊎_elim, arith}
+use Rattle.std.proofs.Common.{◌≡◌, ℕ, zero, suc, ◌+◌, ◌<◌, ◌≤◌, Bool, true, false, cond, [], is_some, Some, None, Option, sym, refl, ap, ◌∙◌, subst, ◌⊎◌, inl, inr, ⊎_elim, arith}
 use Rattle.std.proofs.lemmas.Bool.{true≢false, false≢true, eqb-true, lt-ltb, cases_lt}
 use Rattle.std.proofs.lemmas.Option.{none-some, same_Some}
 use Rattle.command_list.specs.declared.command.Half.{Half}
@@ -17,7 +17,7 @@ use Rattle.bindings.specs.declared.constants.SpecialConstants.{SpecialConstants 
 use Rattle.passes.specs.declared.element.RootElement.{RootElement}
 use Rattle.passes.specs.declared.element.RootElement.TheVariants.{Empty, Immediates, SpecialConstants, DescriptorTable, DynamicUniformBuffer}
 use Rattle.passes.specs.Account.{Bound, slot_of, special_slot, own_slot_of, own_slot, current_special, is_constants, fits_owner}
-use Rattle.passes.specs.Flush.{Value, nothing, table_at, view_at, words_are, firsts, words_used, size_of, constant_words, element_value, value_at}
+use Rattle.passes.specs.Flush.{Value, nothing, words_are, firsts, words_used, size_of, constant_words, element_value, value_at}
 
 -- ---- owners
 
