@@ -1,7 +1,7 @@
 -- The first address that is too far and the first slot that is unfit, by the law of first failures.
-use Rattle.std.proofs.Common.{◌≡◌, ℕ, ◌^◌, ◌<◌, ◌≤◌, Bool, true, false, ltb, List, length, get_or, Some, None, Option, refl, sym, ap, ◌∙◌, subst, arith}
+use Rattle.std.proofs.Common.{◌≡◌, ℕ, ◌^◌, ◌<◌, Bool, true, false, List, get_or, Some, None, Option, refl, sym, ap, ◌∙◌, arith}
 use Rattle.std.specs.List.{range_with_len}
-use Rattle.std.proofs.lemmas.Bool.{ltb-true, ltb-false, false≢true, true≢false}
+use Rattle.std.proofs.lemmas.Bool.{ltb-true, ltb-false, true≢false}
 use Rattle.std.proofs.lemmas.List.FromFn.{length-range_with_len, get_or-range_with_len}
 use Rattle.layouts.specs.declared.info.Owner.{Owner}
 use Rattle.layouts.specs.declared.layout.PipelineLayout.{PipelineLayout}
@@ -11,7 +11,7 @@ use Rattle.command_list.proofs.Refusing.{first_law}
 use Rattle.passes.specs.declared.element.RootElement.{RootElement}
 use Rattle.passes.specs.Account.{is_of, fits_owner, unfit}
 use Rattle.passes.specs.Calls.{is_near, too_far}
-use Rattle.passes.specs.Firsts.{FirstFar, FarAt, IsFit, FirstUnfit, UnfitAt, RefusalsAreFirst}
+use Rattle.passes.specs.Firsts.{FarAt, IsFit, UnfitAt, RefusalsAreFirst}
 
 far_by : (xs : List ℕ) (o : Option ℕ) → FirstOf is_near xs o → FarAt xs o
 far_by xs None a = λ k h. ltb-true (get_or xs k 0) (2 ^ 64) (a k 0 h)

@@ -1,8 +1,6 @@
 -- What the checks of a call say, where none of them fails.
-use Rattle.std.proofs.Common.{◌≡◌, ℕ, zero, suc, ◌+◌, ◌<◌, ◌≤◌, Bool, true, false, cond, ◌&&◌, eqb, ltb, List, [], ◌∷◌, length, is_some, Some, None, Option, sym, refl, ap, ◌∙◌, ⊎_elim, arith}
-use Rattle.std.proofs.lemmas.Bool.{true≢false, false≢true, eqb-true, ltb-true, cases_eq, and_parts, cond-true}
-use Rattle.command_list.specs.declared.fault.Fault.{Fault}
-use Rattle.command_list.specs.declared.fault.Number.{Number}
+use Rattle.std.proofs.Common.{◌≡◌, ℕ, zero, suc, ◌+◌, ◌<◌, ◌≤◌, Bool, true, false, cond, ◌&&◌, eqb, ltb, List, [], ◌∷◌, length, Some, None, Option, sym, refl, ap, ◌∙◌, ⊎_elim, arith}
+use Rattle.std.proofs.lemmas.Bool.{false≢true, eqb-true, ltb-true, cases_eq, and_parts, cond-true}
 use Rattle.layouts.specs.declared.info.BindGroupInfo.{BindGroupInfo}
 use Rattle.layouts.specs.declared.info.ImmediatesInfo.{ImmediatesInfo}
 use Rattle.layouts.specs.declared.layout.PipelineLayout.{PipelineLayout}
@@ -15,7 +13,7 @@ use Rattle.bindings.specs.declared.binding.BufferBinding.{BufferBinding}
 use Rattle.passes.specs.declared.element.RootElement.{RootElement}
 use Rattle.passes.specs.Account.{Account, Pipeline, is_current, fits_owner, unfit}
 use Rattle.passes.specs.Calls.{set_bind_group, set_immediates, set_render_pipeline, set_compute_pipeline, set_vertex_buffer, DrawCall, addresses, is_there, is_handle, table_there, uniforms_are, too_far, agrees, asks_layout, words_fit, binding_fits, asks_set, drawable, buffer_there, asks_draw}
-use Rattle.command_list.specs.Refusals.{unless, before, fault_at, fault}
+use Rattle.command_list.specs.Refusals.{unless, fault_at, fault}
 use Rattle.command_list.proofs.Refusing.{some≢none, before_none, unless_none, fault_none}
 
 -- ---- equal layouts

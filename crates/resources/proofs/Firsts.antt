@@ -1,15 +1,13 @@
 -- The first change that fails a check.
-use Rattle.std.proofs.Common.{◌≡◌, ℕ, ◌+◌, Bool, true, false, cond, not, List, [], ◌∷◌, Some, None, Ok, Err, Option, Result, sym, refl, ap, ◌∙◌, subst, inl, inr, ⊎_elim, arith}
-use Rattle.std.proofs.lemmas.Bool.{cond-true, cond-false, cases_Bool}
+use Rattle.std.proofs.Common.{◌≡◌, ℕ, ◌+◌, Bool, true, false, cond, not, List, [], ◌∷◌, Some, None, Ok, Err, Option, Result, sym, refl, ap, ◌∙◌, subst, inl, inr, arith}
 use Rattle.std.specs.List.{position, position_from}
 use Rattle.std.proofs.lemmas.Iterator.Adapters.{position_from-zero}
 use Rattle.command_list.specs.declared.fault.Fault.{Fault}
-use Rattle.command_list.specs.Seen.{number_of}
 use Rattle.resources.specs.declared.barrier.ResourceBarrier.{ResourceBarrier}
 use Rattle.resources.specs.Usages.{Usage}
 use Rattle.resources.specs.Barriers.{Change, in_range, present, verdict, Decided}
 use Rattle.resources.specs.Listed.{change_of, changes_of}
-use Rattle.command_list.specs.Refusals.{first_from, Why, fault, why_of, fault_at, before, fault_of, AllPass, First}
+use Rattle.command_list.specs.Refusals.{first_from, Why, fault, why_of, fault_at, before, fault_of, First}
 use Rattle.command_list.proofs.Refusing.{first_none, first_at}
 
 -- the first change that fails a check, in std's words
