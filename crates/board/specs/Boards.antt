@@ -25,7 +25,11 @@ abbrev pub no_slot : Place RootSlot
 no_slot = record { held = slot.Unset; writes = 0 }
 
 abbrev pub roots_of : RootHalf → Roots
-roots_of h = record { signature = h.signature; slots = λ i. slot_of (slice_index_or h.slots i no_slot).held; writes = λ i. (slice_index_or h.slots i no_slot).writes }
+roots_of h = record {
+  signature = h.signature;
+  slots = λ i. slot_of (slice_index_or h.slots i no_slot).held;
+  writes = λ i. (slice_index_or h.slots i no_slot).writes;
+}
 
 abbrev pub view_of : View → VertexView
 view_of v = record { address = v.address; size = v.size; stride = v.stride }
@@ -72,4 +76,6 @@ Spare f k most = (i : ℕ) → f i + k ≤ most
 
 -- each record takes a byte at least, so no count passes the space that the board was made with
 abbrev pub Spares : Device → ℕ → ℕ → Type 0
-Spares d k most = Spare d.counts k most × Spare d.vertex_writes k most × Spare (d.halves Graphics).writes k most × Spare (d.halves Compute).writes k most
+Spares d k most =
+    Spare d.counts k most × Spare d.vertex_writes k most
+    × Spare (d.halves Graphics).writes k most × Spare (d.halves Compute).writes k most

@@ -1,4 +1,4 @@
-// The board: a recorder that keeps the device's state itself, which can be looked at.
+// The recorder, and what can be asked of it.
 ghost use Rattle.std.specs.Prelude.{◌≡◌, ℕ, ◌+◌, ◌^◌, ◌<◌, if◌then◌else◌, nat_lt, MatchResult};
 ghost use Rattle.command_list.specs.Commands.{byte_of, size};
 ghost use Rattle.device.specs.Devices.{start, unset};
@@ -12,6 +12,8 @@ use command_list::fault::Fault;
 use device::recorder::{Recorder, fitting};
 use list_writer::writer::Recordable;
 
+/// The device's state after the recorded commands, and the bytes that are left for records. The
+/// records themselves are not kept: only their sizes count.
 #[derive(Drop)]
 pub struct Board {
     state: State,
@@ -22,7 +24,7 @@ pub struct Board {
 }
 
 impl Board {
-    // A board on which nothing was recorded, with any space.
+    /// A board with nothing set and `most` bytes for records.
     pub fn new(most: usize) -> Board
         ensures { (device_of result.state ≡ start) × (result.rest ≡ most) × (result.most ≡ most) }
     {
@@ -33,29 +35,31 @@ impl Board {
         }
     }
 
-    // The root signature of a half; 0 if none is set.
+    /// The root signature of a half; 0 where none is set.
     pub fn signature(&self, half: Half) -> u32
         ensures { result ≡ ((device_of self.now.state).halves half).signature }
     {
         self.state.half(half).signature
     }
 
+    /// The pipeline state; 0 where none is set.
     pub fn pipeline(&self) -> u32
         ensures { result ≡ (device_of self.now.state).pipeline }
     {
         self.state.pipeline
     }
 
-    // The latest draw or dispatch, if any.
+    /// The last draw or dispatch, direct or indirect.
     pub fn latest(&self) -> Option<Fixed>
         ensures { latest_of result ≡ (device_of self.now.state).latest }
     {
         self.state.latest
     }
 
-    // What a root slot holds; past the last one, nothing.
+    /// What root slot `i` holds. There are 64; behind them every slot is unset.
     pub fn slot(&self, half: Half, i: u8) -> RootSlot
-        ensures { slot_of result ≡ (if nat_lt i 64 then ((device_of self.now.state).halves half).slots i else unset) }
+        ensures { slot_of result
+            ≡ (if nat_lt i 64 then ((device_of self.now.state).halves half).slots i else unset) }
     {
         let slots = &self.state.half(half).slots;
         slots
@@ -63,17 +67,19 @@ impl Board {
             .map_or(RootSlot::Unset, |slot| slot.held)
     }
 
-    // How often a root slot was written.
+    /// How often root slot `i` was written; 0 where there is no such slot.
     pub fn slot_writes(&self, half: Half, i: u8) -> u64
-        ensures { result ≡ (if nat_lt i 64 then ((device_of self.now.state).halves half).writes i else 0) }
+        ensures { result
+            ≡ (if nat_lt i 64 then ((device_of self.now.state).halves half).writes i else 0) }
     {
         let slots = &self.state.half(half).slots;
         slots.get(i as usize).map_or(0, |slot| slot.writes)
     }
 
-    // A vertex view.
+    /// The view at vertex slot `i`, of 16; all zeros where none was set or there is no such slot.
     pub fn vertex(&self, i: u8) -> View
-        ensures { view_of result ≡ (if nat_lt i 16 then (device_of self.now.state).vertices i else view_of no_view) }
+        ensures { view_of result
+            ≡ (if nat_lt i 16 then (device_of self.now.state).vertices i else view_of no_view) }
     {
         let vertices = &self.state.vertices;
         vertices
@@ -81,7 +87,7 @@ impl Board {
             .map_or(View::default(), |slot| slot.held)
     }
 
-    // How often a vertex slot was written.
+    /// How often vertex slot `i` was written; 0 where there is no such slot.
     pub fn vertex_writes(&self, i: u8) -> u64
         ensures { result ≡ (if nat_lt i 16 then (device_of self.now.state).vertex_writes i else 0) }
     {
@@ -89,7 +95,7 @@ impl Board {
         vertices.get(i as usize).map_or(0, |slot| slot.writes)
     }
 
-    // How many commands of a code there were.
+    /// How many commands of a code were recorded.
     pub fn count(&self, code: Code) -> u64
         ensures { result ≡ (device_of self.now.state).counts (byte_of code) }
     {

@@ -1,4 +1,5 @@
-// A recorder that keeps the device's state itself.
+//! A recorder that keeps no commands, but the state that they leave the device in. Tests and the
+//! program look there for what a list does.
 #![tactic(auto)]
 
 pub mod board;

@@ -8,17 +8,20 @@ ghost use Rattle.board.specs.Lending.{LendsHalf};
 
 use command_list::command::{Fixed, Half};
 
-// What a root slot holds.
+/// What a root slot holds.
 #[derive(Clone, Copy, PartialEq, Default)]
 pub enum RootSlot {
     #[default]
     Unset,
+    /// A descriptor table, by its address.
     Table(u64),
+    /// A constant buffer view, by its address.
     Buffer(u64),
+    /// Root constants, of which some may not be set.
     Words([Option<u32>; 64]),
 }
 
-// A vertex view.
+/// A vertex buffer view (`D3D12_VERTEX_BUFFER_VIEW`): size and stride in bytes.
 #[derive(Clone, Copy, PartialEq, Default)]
 pub struct View {
     pub address: u64,
@@ -26,27 +29,30 @@ pub struct View {
     pub stride: u32,
 }
 
-// What a slot holds, and how often it was written.
+/// What a slot holds, and how often it was written.
 #[derive(Clone, Copy, Default)]
 pub struct Slot<T> {
     pub held: T,
     pub writes: u64,
 }
 
-// A half's root signature (0: none) and its slots.
+/// The root signature (0: none) and root slots of graphics or of compute.
 #[derive(Clone, Copy)]
 pub struct RootHalf {
     pub signature: u32,
     pub slots: [Slot<RootSlot>; 64],
 }
 
+/// The device's state.
 #[derive(Clone, Copy)]
 pub struct State {
     pub graphics: RootHalf,
     pub compute: RootHalf,
     pub vertices: [Slot<View>; 16],
     pub pipeline: u32,
+    /// The last draw or dispatch.
     pub latest: Option<Fixed>,
+    /// How many commands of each code were recorded.
     pub counts: [u64; 32],
 }
 
@@ -75,7 +81,7 @@ impl<T: Copy> Slot<T> {
 }
 
 impl RootHalf {
-    // A half into which nothing was recorded.
+    // Nothing set, nothing written.
     fn new() -> RootHalf
         ensures { roots_of result ≡ record { signature = 0; slots = λ i. unset; writes = λ i. 0 } }
     {
@@ -85,7 +91,7 @@ impl RootHalf {
         }
     }
 
-    // A signature unlike the half's own replaces it and unsets its slots.
+    // Sets the root signature; a new one unsets all slots.
     pub(crate) fn sign(&mut self, signature: u32)
         ensures { roots_of self.new ≡ signed signature (roots_of self.old) }
     {
@@ -118,7 +124,7 @@ impl RootHalf {
         self.put_slot(i, RootSlot::Words(words));
     }
 
-    // Unsets a special slot, which is no write.
+    // Unsets the special slot of a command signature, which counts as no write.
     pub(crate) fn wipe(&mut self, special: Option<u8>)
         requires { is_special special ≡ true }
         ensures { roots_of self.new ≡ wiped special (roots_of self.old) }
@@ -130,7 +136,7 @@ impl RootHalf {
 }
 
 impl State {
-    // The state that nothing was recorded into.
+    // Nothing set, nothing counted.
     pub(crate) fn new() -> State
         ensures { device_of result ≡ start }
     {

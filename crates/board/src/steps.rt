@@ -20,8 +20,6 @@ impl State {
         self.vertices[i].put(view);
     }
 
-    // `Spares` is asked here and by the two functions below, and no fact of `State`: how much is spare depends on the
-    // space that is left, which the board has.
     // What a command of a fixed width changes besides its code's count.
     fn effect(&mut self, fixed: Fixed)
         requires ranged { in_range (fixed_command fixed) ≡ true }

@@ -1,17 +1,18 @@
--- The device's state, and what each command does to it. Slots, words and counts are functions of a number.
+-- The device's state, and what each command does to it. Slots, words and counts go by a number.
 use Rattle.std.specs.Prelude.{ℕ, ◌+◌, cond, List, [], ◌∷◌, Some, None, Option, ◌==◌}
 use Rattle.command_list.specs.declared.command.Half.{Half}
 use Rattle.command_list.specs.declared.command.Half.TheVariants.{Graphics, Compute}
 use Rattle.command_list.specs.Commands.{Command, code_of, byte_of, SetRootSignature, SetPipelineState, IASetVertexBuffers, SetRoot32BitConstant, SetRootDescriptorTable, SetRootConstantBufferView, DrawInstanced, Dispatch, ExecuteIndirect}
 
--- what a root slot holds: nothing, a table's or a view's address, or words, each unset or a number
+-- a root slot: not set, a descriptor table or a constant buffer view by its address, or root
+-- constants, of which each word may be set
 pub data Slot : Type 0 where
   unset : Slot
   table : ℕ → Slot
   view : ℕ → Slot
   words : (ℕ → Option ℕ) → Slot
 
--- one half: its root signature (0: none), its root slots, and how often each was written
+-- graphics or compute: its root signature (0: none), its root slots, and each slot's writes
 pub record Roots : Type 0 where
   pub signature : ℕ
   pub slots : ℕ → Slot
@@ -25,12 +26,12 @@ pub record VertexView : Type 0 where
 pub record Device : Type 0 where
   pub halves : Half → Roots
   pub vertices : ℕ → VertexView
-  -- how often each vertex slot was written
+  -- the writes of each vertex slot
   pub vertex_writes : ℕ → ℕ
   pub pipeline : ℕ
-  -- the latest draw or dispatch, if any
+  -- the last draw or dispatch
   pub latest : Option Command
-  -- how many commands of each code there were
+  -- the number of commands of each code
   pub counts : ℕ → ℕ
 
 -- f, but for x at i
@@ -41,24 +42,25 @@ update f i x q = cond (q == i) x (f q)
 abbrev pub more : ℕ → (ℕ → ℕ) → ℕ → ℕ
 more i f = update f i (f i + 1)
 
--- the words of a slot; a slot of another kind has none
+-- the root constants of a slot; a table and a view have none
 abbrev pub words_of : Slot → ℕ → Option ℕ
 words_of (words f) w = f w
 words_of _ w = None
 
--- a signature unlike the half's own replaces it and unsets its slots; the same one keeps them
+-- a root signature is set: a new one unsets all root slots of the half, the same one none
 abbrev pub signed : ℕ → Roots → Roots
 signed s r = cond (r.signature == s) r (record r { signature = s; slots = λ i. unset })
 
--- a slot is replaced, which is a write
+-- a root slot is set, which counts as a write
 abbrev pub written : ℕ → Slot → Roots → Roots
 written i x r = record r { slots = update r.slots i x; writes = more i r.writes }
 
--- a word is set, which is a write; another kind of slot first turns into unset words
+-- a root constant is set, which counts as a write; the other words stay, if there are any
 abbrev pub worded : ℕ → ℕ → ℕ → Roots → Roots
 worded i w v r = written i (words (update (words_of (r.slots i)) w (Some v))) r
 
--- an indirect call with an own signature unsets its special slot, which is no write
+-- an indirect call whose command signature has root constants leaves its special slot unset;
+-- that counts as no write
 abbrev pub wiped : Option ℕ → Roots → Roots
 wiped None r = r
 wiped (Some i) r = record r { slots = update r.slots i unset }
@@ -67,7 +69,7 @@ abbrev pub other : Half → Half
 other Graphics = Compute
 other Compute = Graphics
 
--- the halves with one of them changed
+-- one half is changed, the other stays
 abbrev pub changed : Half → (Roots → Roots) → (Half → Roots) → Half → Roots
 changed Graphics f hs Graphics = f (hs Graphics)
 changed Compute f hs Compute = f (hs Compute)
@@ -91,7 +93,7 @@ drawn c d = record d { latest = Some c }
 abbrev pub counted : ℕ → Device → Device
 counted k d = record d { counts = more k d.counts }
 
--- what a command changes besides its code's count
+-- what a command does, but for the count of its code
 abbrev pub effect : Command → Device → Device
 effect (SetRootSignature h s) d = on_half h (signed s) d
 effect (SetPipelineState p) d = piped p d
@@ -105,16 +107,16 @@ effect (ExecuteIndirect h s n b o) d =
     drawn (ExecuteIndirect h s n b o) (on_half h (wiped s) d)
 effect _ d = d
 
--- one command
+-- one command is executed
 abbrev pub step : Command → Device → Device
 step c d = counted (byte_of (code_of c)) (effect c d)
 
--- commands in their order
+-- a list of commands is executed
 abbrev pub play : List Command → Device → Device
 play [] d = d
 play (c ∷ cs) d = play cs (step c d)
 
--- nothing set, nothing counted
+-- the state at the start of a list
 abbrev pub start : Device
 start = record {
   halves = λ h. record { signature = 0; slots = λ i. unset; writes = λ i. 0 };

@@ -7,18 +7,21 @@ use crate::recorder::{Recorder, fitting};
 use command_list::fault::Fault;
 use list_writer::writer::Recordable;
 
+/// A recorder whose records may take so many bytes at most, however much space there is in the
+/// recorder below it.
 #[derive(Drop)]
 pub struct Ration<R: Recorder> {
     below: R,
     rest: usize,
     most: usize,
-    // Where what is below shows its commands, these and what is left are the allowance.
+    // Where the recorder below shows its commands, what their records take and what is left are
+    // the allowance.
     ghost spent: { (cs : List Command) →
         (R.meaning below).shown ≡ Some cs → rest + sizes cs ≡ most },
 }
 
 impl<R: Recorder> Ration<R> {
-    // An allowance over a recorder, which is started anew.
+    /// An allowance of `most` bytes over a recorder, which is started anew.
     pub fn new(mut below: R, most: usize) -> Ration<R>
         ensures anew { Anew (rationed most most (R.meaning below))
             (rationed result.rest result.most (R.meaning result.below)) }
@@ -33,7 +36,7 @@ impl<R: Recorder> Ration<R> {
         }
     }
 
-    // The recorder below, as it stands.
+    /// The recorder below, as it stands.
     pub fn into_below(self) -> R
         ensures { result ≡ self.below }
     {
@@ -65,13 +68,15 @@ impl<R: Recorder> Recorder for Ration<R> {
 
     fn record<C: Recordable>(&mut self, command: C) -> Result<(), Fault>
         ensures asked { Asked (rationed self.old.rest self.old.most (R.meaning self.old.below))
-            (C.says command) result (rationed self.new.rest self.new.most (R.meaning self.new.below)) }
+            (C.says command) result
+            (rationed self.new.rest self.new.most (R.meaning self.new.below)) }
         ensures spent { MatchResult result
             (λ _. self.new.rest + size (C.says command) ≡ self.old.rest)
             (λ _. self.new.rest ≡ self.old.rest) }
         ensures most { self.new.most ≡ self.old.most }
         ensures below { MatchResult result
-            (λ _. Recorded (R.meaning self.old.below) (C.says command ∷ []) (R.meaning self.new.below))
+            (λ _. Recorded (R.meaning self.old.below)
+            (C.says command ∷ []) (R.meaning self.new.below))
             (λ _. R.meaning self.new.below ≡ R.meaning self.old.below) }
     {
         let bytes = fitting(command.size()?, self.rest)?;

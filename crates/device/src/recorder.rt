@@ -1,4 +1,4 @@
-// What a recorder of commands does.
+// The trait of what commands are recorded into.
 ghost use Rattle.std.specs.Prelude.{◌≡◌, ◌<◌, ◌≤◌, MatchResult, slice_index};
 ghost use Rattle.command_list.specs.declared.command.Half.TheVariants.{Graphics, Compute};
 ghost use Rattle.command_list.specs.Commands.{BeginEvent, EndEvent, SetDescriptorHeaps, SetRootSignature, SetPipelineState, IASetPrimitiveTopology, IASetVertexBuffers, SetRoot32BitConstant, SetRootDescriptorTable, SetRootConstantBufferView, OMSetRenderTargets, ClearRenderTargetView, RSSetViewports, RSSetScissorRects, ResourceBarrier, DrawInstanced, Dispatch, ExecuteIndirect};
@@ -9,14 +9,16 @@ use command_list::command::{Barrier, Command, Fixed, Half};
 use command_list::fault::{FULL, Fault};
 use list_writer::writer::Recordable;
 
-// A size that a space has.
+/// `size`, where so many bytes are left; otherwise refused with 10 at place 0.
 pub fn fitting(size: usize, space: usize) -> Result<usize, Fault>
-    ensures { MatchResult result (λ n. (n ≡ size) × (size ≤ space)) (λ f. IsFault f 10 0 × (space < size)) }
+    ensures { MatchResult result
+        (λ n. (n ≡ size) × (size ≤ space))
+        (λ f. IsFault f 10 0 × (space < size)) }
 {
     if space < size { Err(FULL) } else { Ok(size) }
 }
 
-// The commands that each half has for itself.
+// The four calls that Direct3D has once for graphics and once for compute.
 fn root_signature(half: Half, signature: u32) -> Fixed
     ensures { fixed_command result ≡ SetRootSignature half signature }
 {
@@ -54,76 +56,84 @@ fn root_view(half: Half, slot: u8, address: u64) -> Fixed
     }
 }
 
-// A recorder takes commands into its space. A command is refused exactly when it has no record that
-// the reader takes or when that record is longer than the space; it then alters nothing. There is a
-// function for each code of the list file, as Direct3D has one for each call: all of them come to
-// `record`, and those that differ in a half alone share what makes their command. Operands stand singly,
-// as in Direct3D's calls.
+/// Something that commands are recorded into, one behind the other, and that has so many bytes for
+/// their records. Each call is refused with 10 at place 0 where the command has no record that a
+/// list file can hold (an operand is out of range, a label has no 0 at its end, the record is too
+/// long) or where its record does not fit; the recorder is then as it was.
+///
+/// An implementor writes `space`, `start_anew` and `record`. The other functions have the names of
+/// Direct3D's calls, one for each code of the list file, and end in `record`.
 pub trait Recorder {
     ghost meaning: { Self → Meaning };
 
-    // The space left in bytes.
+    /// How many bytes are left for records.
     fn space(&self) -> usize
         ensures { result ≡ (meaning self.now).space };
 
-    // Forgets all commands: the device as at the start, and the space that it was made with.
+    /// Drops all commands: nothing is set on the device, and all the space is free again.
     fn start_anew(&mut self)
         ensures { Anew (meaning self.old) (meaning self.new) };
 
-    // Any command, as it is given or as it was read.
+    /// Records a command, given by a caller or read from a list file.
     fn record<C: Recordable>(&mut self, command: C) -> Result<(), Fault>
         ensures { Asked (meaning self.old) (C.says command) result (meaning self.new) };
 
-    // Code 1.
+    /// PIX `BeginEvent` (code 1): `label` in UTF-16 units, of which the last is 0.
     fn begin_event(&mut self, label: &[u16]) -> Result<(), Fault>
         ensures { Asked (meaning self.old) (BeginEvent label.now) result (meaning self.new) }
     {
         self.record(Command::BeginEvent(label))
     }
 
-    // Code 2.
+    /// `EndEvent` (code 2).
     fn end_event(&mut self) -> Result<(), Fault>
         ensures { Asked (meaning self.old) (EndEvent) result (meaning self.new) }
     {
         self.record(Fixed::EndEvent)
     }
 
-    // Code 3.
+    /// `SetDescriptorHeaps` (code 3): the program's heaps, or none.
     fn set_descriptor_heaps(&mut self, on: bool) -> Result<(), Fault>
         ensures { Asked (meaning self.old) (SetDescriptorHeaps on) result (meaning self.new) }
     {
         self.record(Fixed::SetDescriptorHeaps(on))
     }
 
-    // Code 4.
+    /// `SetGraphicsRootSignature` (code 4).
     fn set_graphics_root_signature(&mut self, signature: u32) -> Result<(), Fault>
-        ensures { Asked (meaning self.old) (SetRootSignature Graphics signature) result (meaning self.new) }
+        ensures { Asked (meaning self.old)
+            (SetRootSignature Graphics signature)
+            result (meaning self.new) }
     {
         self.record(root_signature(Half::Graphics, signature))
     }
 
-    // Code 5.
+    /// `SetComputeRootSignature` (code 5).
     fn set_compute_root_signature(&mut self, signature: u32) -> Result<(), Fault>
-        ensures { Asked (meaning self.old) (SetRootSignature Compute signature) result (meaning self.new) }
+        ensures { Asked (meaning self.old)
+            (SetRootSignature Compute signature)
+            result (meaning self.new) }
     {
         self.record(root_signature(Half::Compute, signature))
     }
 
-    // Code 6.
+    /// `SetPipelineState` (code 6).
     fn set_pipeline_state(&mut self, pipeline: u32) -> Result<(), Fault>
         ensures { Asked (meaning self.old) (SetPipelineState pipeline) result (meaning self.new) }
     {
         self.record(Fixed::SetPipelineState(pipeline))
     }
 
-    // Code 7.
+    /// `IASetPrimitiveTopology` (code 7): a `D3D12_PRIMITIVE_TOPOLOGY` by its number.
     fn ia_set_primitive_topology(&mut self, topology: u32) -> Result<(), Fault>
-        ensures { Asked (meaning self.old) (IASetPrimitiveTopology topology) result (meaning self.new) }
+        ensures { Asked (meaning self.old)
+            (IASetPrimitiveTopology topology)
+            result (meaning self.new) }
     {
         self.record(Fixed::IASetPrimitiveTopology(topology))
     }
 
-    // Code 8.
+    /// `IASetVertexBuffers` (code 8) of one view: `size` and `stride` in bytes, `slot` below 16.
     fn ia_set_vertex_buffers(
         &mut self,
         slot: u8,
@@ -131,7 +141,9 @@ pub trait Recorder {
         size: u32,
         stride: u32,
     ) -> Result<(), Fault>
-        ensures { Asked (meaning self.old) (IASetVertexBuffers slot address size stride) result (meaning self.new) }
+        ensures { Asked (meaning self.old)
+            (IASetVertexBuffers slot address size stride)
+            result (meaning self.new) }
     {
         self.record(Fixed::IASetVertexBuffers {
             slot,
@@ -141,84 +153,107 @@ pub trait Recorder {
         })
     }
 
-    // Code 10.
+    /// `SetGraphicsRoot32BitConstant` (code 10): `slot` and `word` below 64.
     fn set_graphics_root_32bit_constant(
         &mut self,
         slot: u8,
         word: u8,
         value: u32,
     ) -> Result<(), Fault>
-        ensures { Asked (meaning self.old) (SetRoot32BitConstant Graphics slot word value) result (meaning self.new) }
+        ensures { Asked (meaning self.old)
+            (SetRoot32BitConstant Graphics slot word value)
+            result (meaning self.new) }
     {
         self.record(root_constant(Half::Graphics, slot, word, value))
     }
 
-    // Code 11.
+    /// `SetComputeRoot32BitConstant` (code 11): `slot` and `word` below 64.
     fn set_compute_root_32bit_constant(
         &mut self,
         slot: u8,
         word: u8,
         value: u32,
     ) -> Result<(), Fault>
-        ensures { Asked (meaning self.old) (SetRoot32BitConstant Compute slot word value) result (meaning self.new) }
+        ensures { Asked (meaning self.old)
+            (SetRoot32BitConstant Compute slot word value)
+            result (meaning self.new) }
     {
         self.record(root_constant(Half::Compute, slot, word, value))
     }
 
-    // Code 12.
+    /// `SetGraphicsRootDescriptorTable` (code 12): `slot` below 64.
     fn set_graphics_root_descriptor_table(&mut self, slot: u8, address: u64) -> Result<(), Fault>
-        ensures { Asked (meaning self.old) (SetRootDescriptorTable Graphics slot address) result (meaning self.new) }
+        ensures { Asked (meaning self.old)
+            (SetRootDescriptorTable Graphics slot address)
+            result (meaning self.new) }
     {
         self.record(root_table(Half::Graphics, slot, address))
     }
 
-    // Code 13.
+    /// `SetComputeRootDescriptorTable` (code 13): `slot` below 64.
     fn set_compute_root_descriptor_table(&mut self, slot: u8, address: u64) -> Result<(), Fault>
-        ensures { Asked (meaning self.old) (SetRootDescriptorTable Compute slot address) result (meaning self.new) }
+        ensures { Asked (meaning self.old)
+            (SetRootDescriptorTable Compute slot address)
+            result (meaning self.new) }
     {
         self.record(root_table(Half::Compute, slot, address))
     }
 
-    // Code 14.
+    /// `SetGraphicsRootConstantBufferView` (code 14): `slot` below 64.
     fn set_graphics_root_constant_buffer_view(
         &mut self,
         slot: u8,
         address: u64,
     ) -> Result<(), Fault>
-        ensures { Asked (meaning self.old) (SetRootConstantBufferView Graphics slot address) result (meaning self.new) }
+        ensures { Asked (meaning self.old)
+            (SetRootConstantBufferView Graphics slot address)
+            result (meaning self.new) }
     {
         self.record(root_view(Half::Graphics, slot, address))
     }
 
-    // Code 15.
+    /// `SetComputeRootConstantBufferView` (code 15): `slot` below 64.
     fn set_compute_root_constant_buffer_view(&mut self, slot: u8, address: u64) -> Result<(), Fault>
-        ensures { Asked (meaning self.old) (SetRootConstantBufferView Compute slot address) result (meaning self.new) }
+        ensures { Asked (meaning self.old)
+            (SetRootConstantBufferView Compute slot address)
+            result (meaning self.new) }
     {
         self.record(root_view(Half::Compute, slot, address))
     }
 
-    // Code 16.
+    /// `OMSetRenderTargets` (code 16): at most eight handles.
     fn om_set_render_targets(&mut self, targets: &[u64]) -> Result<(), Fault>
-        ensures { Asked (meaning self.old) (OMSetRenderTargets targets.now) result (meaning self.new) }
+        ensures { Asked (meaning self.old)
+            (OMSetRenderTargets targets.now)
+            result (meaning self.new) }
     {
         self.record(Command::OMSetRenderTargets(targets))
     }
 
-    // Code 17.
+    /// `ClearRenderTargetView` (code 17): `colour` by the bits of four floats.
     fn clear_render_target_view(&mut self, target: u64, colour: [u32; 4]) -> Result<(), Fault>
-        ensures { Asked (meaning self.old) (ClearRenderTargetView target (slice_index colour 0) (slice_index colour 1) (slice_index colour 2) (slice_index colour 3)) result (meaning self.new) }
+        ensures { Asked (meaning self.old)
+            (ClearRenderTargetView target
+            (slice_index colour 0) (slice_index colour 1) (slice_index colour 2)
+            (slice_index colour 3))
+            result (meaning self.new) }
     {
         self.record(Fixed::ClearRenderTargetView { target, colour })
     }
 
-    // Code 20.
+    /// `RSSetViewports` (code 20) of one viewport, by the bits of six floats: x, y, width, height,
+    /// least and greatest depth.
     fn rs_set_viewports(&mut self, viewport: [u32; 6]) -> Result<(), Fault>
-        ensures { Asked (meaning self.old) (RSSetViewports (slice_index viewport 0) (slice_index viewport 1) (slice_index viewport 2) (slice_index viewport 3) (slice_index viewport 4) (slice_index viewport 5)) result (meaning self.new) }
+        ensures { Asked (meaning self.old)
+            (RSSetViewports
+            (slice_index viewport 0) (slice_index viewport 1) (slice_index viewport 2)
+            (slice_index viewport 3) (slice_index viewport 4) (slice_index viewport 5))
+            result (meaning self.new) }
     {
         self.record(Fixed::RSSetViewports(viewport))
     }
 
-    // Code 21.
+    /// `RSSetScissorRects` (code 21) of one rectangle: each side by the bits of an `i32`.
     fn rs_set_scissor_rects(
         &mut self,
         left: u32,
@@ -226,7 +261,9 @@ pub trait Recorder {
         right: u32,
         bottom: u32,
     ) -> Result<(), Fault>
-        ensures { Asked (meaning self.old) (RSSetScissorRects left top right bottom) result (meaning self.new) }
+        ensures { Asked (meaning self.old)
+            (RSSetScissorRects left top right bottom)
+            result (meaning self.new) }
     {
         self.record(Fixed::RSSetScissorRects {
             left,
@@ -236,14 +273,16 @@ pub trait Recorder {
         })
     }
 
-    // Code 22.
+    /// `ResourceBarrier` (code 22): 1 to 3854 barriers.
     fn resource_barrier(&mut self, barriers: &[Barrier]) -> Result<(), Fault>
-        ensures { Asked (meaning self.old) (ResourceBarrier barriers.now) result (meaning self.new) }
+        ensures { Asked (meaning self.old)
+            (ResourceBarrier barriers.now)
+            result (meaning self.new) }
     {
         self.record(Command::ResourceBarrier(barriers))
     }
 
-    // Code 28.
+    /// `DrawInstanced` (code 28).
     fn draw_instanced(
         &mut self,
         vertices: u32,
@@ -251,7 +290,9 @@ pub trait Recorder {
         first_vertex: u32,
         first_instance: u32,
     ) -> Result<(), Fault>
-        ensures { Asked (meaning self.old) (DrawInstanced vertices instances first_vertex first_instance) result (meaning self.new) }
+        ensures { Asked (meaning self.old)
+            (DrawInstanced vertices instances first_vertex first_instance)
+            result (meaning self.new) }
     {
         self.record(Fixed::DrawInstanced {
             vertices,
@@ -261,14 +302,16 @@ pub trait Recorder {
         })
     }
 
-    // Code 30.
+    /// `Dispatch` (code 30): so many groups in each direction.
     fn dispatch(&mut self, x: u32, y: u32, z: u32) -> Result<(), Fault>
         ensures { Asked (meaning self.old) (Dispatch x y z) result (meaning self.new) }
     {
         self.record(Fixed::Dispatch { x, y, z })
     }
 
-    // Code 31.
+    /// `ExecuteIndirect` (code 31): `count` draws or dispatches, by `half`, whose operands stand in
+    /// `buffer` from `offset` on. `special`, below 64, is the root slot that a command signature
+    /// with root constants writes; without one the shared command signature is used.
     fn execute_indirect(
         &mut self,
         half: Half,
@@ -277,7 +320,9 @@ pub trait Recorder {
         buffer: u32,
         offset: u64,
     ) -> Result<(), Fault>
-        ensures { Asked (meaning self.old) (ExecuteIndirect half special count buffer offset) result (meaning self.new) }
+        ensures { Asked (meaning self.old)
+            (ExecuteIndirect half special count buffer offset)
+            result (meaning self.new) }
     {
         self.record(Fixed::ExecuteIndirect {
             half,

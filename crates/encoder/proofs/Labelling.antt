@@ -1,11 +1,11 @@
 -- What an opening asks of its label.
-use Rattle.std.proofs.Common.{◌≡◌, ℕ, ◌<◌, ◌≤◌, Bool, true, false, ◌&&◌, ◌||◌, leb, ltb, List, [], ◌∷◌, ◌++◌, length, Some, None, Err, Option, Result, sym, refl, ap, ap₂, ◌∙◌, subst, ⊎_elim, inl, inr, arith, length-append}
-use Rattle.std.proofs.lemmas.Bool.{true≢false, and_from, and_parts, or_cases, le-leb, leb-true, lt-leb, lt-ltb, ltb-true, eq-eqb, eqb-true}
+use Rattle.std.proofs.Common.{◌≡◌, ℕ, ◌<◌, ◌≤◌, Bool, true, false, ◌&&◌, List, [], ◌∷◌, ◌++◌, length, Some, None, Err, Option, Result, sym, refl, ap, ◌∙◌, subst, ⊎_elim, arith, length-append}
+use Rattle.std.proofs.lemmas.Bool.{and_from, le-leb, lt-leb}
 use Rattle.std.specs.Str.{chars}
 use Rattle.command_list.specs.declared.fault.Fault.{Fault}
 use Rattle.command_list.specs.Commands.{Command, BeginEvent, SetDescriptorHeaps}
 use Rattle.device.specs.Meaning.{Meaning}
-use Rattle.labels.specs.Unicode.{Scalars, utf8s, utf16s, WellFormed}
+use Rattle.labels.specs.Unicode.{utf16s}
 use Rattle.labels.specs.Labels.{Labelled, Refused, label_units}
 use Rattle.labels.specs.Utf8.{is_utf8}
 use Rattle.labels.proofs.Utf8.{formed_test, test_formed}

@@ -7,3 +7,4 @@ pub mod Transitions
 pub mod Sizes
 pub mod Labelling
 pub mod Moving
+pub mod Firsts

@@ -1,13 +1,19 @@
 -- The sizes of the records of openings and endings.
-use Rattle.std.proofs.Common.{◌≡◌, ℕ, ◌+◌, ◌*◌, ◌≤◌, true, ◌<◌, List, [], ◌∷◌, ◌++◌, length, drop, get_or, map, Ok, Err, Result, Some, None, Option, ap, sym, refl, ◌∙◌, arith}
+use Rattle.std.proofs.Common.{◌≡◌, ℕ, zero, suc, ◌+◌, ◌*◌, ◌≤◌, Bool, true, false, cond, not, eqb, ◌<◌, List, [], ◌∷◌, ◌++◌, length, take, drop, get_or, map, bit_and, Ok, Err, Result, Some, None, Option, ap, sym, refl, ◌∙◌, arith}
+use Rattle.std.specs.Prelude.{slice_index}
+use Rattle.std.specs.Int.{bit_at}
 use Rattle.std.proofs.lemmas.Bool.{le-leb}
-use Rattle.std.proofs.lemmas.List.{append-nil, drop_more, length-map}
+use Rattle.std.proofs.lemmas.List.{append-nil, drop_more, length-map, get_or-take, get_or-map}
+use Rattle.std.proofs.lemmas.Nat.Bits.{and_pow, bit_at-lt}
+use Rattle.std.proofs.lemmas.Option.{same_Some}
+use Rattle.command_list.specs.Bits.{bit}
+use Rattle.command_list.proofs.Refusing.{some≢none}
 use Rattle.command_list.specs.Commands.{Command, BeginEvent, SetDescriptorHeaps, OMSetRenderTargets, RSSetViewports, RSSetScissorRects, unit, handle, size, readable}
 use Rattle.device.specs.Meaning.{Meaning, Recorded, sizes}
 use Rattle.device.proofs.Runs.{sizes_append, recorded_then}
 use Rattle.encoder.specs.declared.attachment.ColorAttachment.{ColorAttachment}
-use Rattle.encoder.specs.Opening.{target_of, clear_of, clear_records}
-use Rattle.encoder.specs.Putting.{Put, Offered, event_records, CanBegin, frame_records}
+use Rattle.encoder.specs.Opening.{target_of, clears, clear_to, clear_of, clear_records}
+use Rattle.encoder.specs.Putting.{Put, Offered, event_records, CanBegin, frame_records, colour_of, HaveTargets}
 use Rattle.command_list.specs.declared.fault.Fault.{Fault}
 use Rattle.command_list.specs.Refusals.{Why}
 use Rattle.bindings.specs.Extents.{single}
@@ -35,6 +41,49 @@ clears_next xs i h = ap clear_records (drop_more xs i None h) ∙ clears_cons (g
 
 pub clears_next_size : (xs : List (Option ColorAttachment)) (i : ℕ) → i < length xs → sizes (clear_records (drop i xs)) ≡ sizes (clear_records (get_or xs i None ∷ [])) + sizes (clear_records (drop (i + 1) xs))
 clears_next_size xs i h = ap sizes (clears_next xs i h) ∙ sizes_append (clear_records (get_or xs i None ∷ [])) (clear_records (drop (i + 1) xs))
+
+-- a flag among others, as the code tests it
+pub flagged : (m : ℕ) → not (eqb (bit_and m 2) 0) ≡ bit m 1
+unfolding bit
+flagged m = by (bit_at m 1) (bit_at-lt m 1) (and_pow m 1)
+  where
+    by : (d : ℕ) → d < 2 → bit_and m 2 ≡ d * 2 → not (eqb (bit_and m 2) 0) ≡ eqb d 1
+    by zero h e = ap (λ x. not (eqb x 0)) e
+    by (suc zero) h e = ap (λ x. not (eqb x 0)) e
+    by (suc (suc d)) h e = absurd (omega (arith, h))
+
+-- an attachment with a colour is there, and is cleared to it
+coloured : (o : Option ColorAttachment) (c : List ℕ) → colour_of o ≡ Some c → (a : ColorAttachment) × (o ≡ Some a) × (clear_records (o ∷ []) ≡ clear_to a.target c ∷ [])
+coloured None c e = absurd (some≢none c (sym e))
+coloured (Some a) c e = by (clears a) refl e
+  where
+    by : (t : Bool) → clears a ≡ t → cond t (Some a.clear_value) None ≡ Some c → (b : ColorAttachment) × (Some a ≡ Some b) × (clear_records (Some a ∷ []) ≡ clear_to b.target c ∷ [])
+    by true q e = (a, refl, ap (λ t. cond t (clear_to a.target a.clear_value ∷ []) [] ++ []) q ∙ ap (λ x. clear_to a.target x ∷ []) (same_Some _ _ e))
+    by false q e = absurd (some≢none c (sym e))
+
+uncoloured : (o : Option ColorAttachment) → colour_of o ≡ None → clear_records (o ∷ []) ≡ []
+uncoloured None e = refl
+uncoloured (Some a) e = by (clears a) refl e
+  where
+    by : (t : Bool) → clears a ≡ t → cond t (Some a.clear_value) None ≡ None → clear_records (Some a ∷ []) ≡ []
+    by true q e = absurd (some≢none a.clear_value e)
+    by false q e = ap (λ t. cond t (clear_to a.target a.clear_value ∷ []) [] ++ []) q
+
+module _ (xs : List (Option ColorAttachment)) (i : ℕ) (h : i < length xs) where
+  -- a clear of the target at its place, and those behind it
+  pub clear_here : (hs : List ℕ) → HaveTargets hs xs → (c : List ℕ) → colour_of (get_or xs i None) ≡ Some c
+      → clear_records (drop i xs) ≡ (clear_to (slice_index hs i) c ∷ []) ++ clear_records (drop (i + 1) xs)
+  clear_here hs has c e =
+      let o = coloured (get_or xs i None) c e in
+      clears_next xs i h ∙ ap (λ cs. cs ++ clear_records (drop (i + 1) xs)) (o.2 ∙ ap (λ t. clear_to t c ∷ []) (sym (has i o.0 h o.1)))
+
+  pub clear_none : colour_of (get_or xs i None) ≡ None → clear_records (drop i xs) ≡ [] ++ clear_records (drop (i + 1) xs)
+  clear_none e = clears_next xs i h ∙ ap (λ cs. cs ++ clear_records (drop (i + 1) xs)) (uncoloured (get_or xs i None) e)
+
+-- the targets that are bound are the attachments' own, where those are there
+pub have_targets : (null : ℕ) (hs : List ℕ) (os : List (Option ColorAttachment)) → take (length os) hs ≡ map (target_of null) os → HaveTargets hs os
+have_targets null hs os e k a h q =
+    sym (get_or-take (length os) hs k 0 h) ∙ ap (λ l. get_or l k 0) e ∙ get_or-map (target_of null) os k None 0 h ∙ ap (target_of null) q
 
 -- ---- events
 

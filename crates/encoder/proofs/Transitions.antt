@@ -3,7 +3,6 @@ use Rattle.std.proofs.Common.{◌≡◌, ℕ, ◌+◌, Bool, true, false, ◌||�
 use Rattle.std.proofs.lemmas.Bool.{and_from, and_parts, le-leb, leb-true, eq-eqb, ne_eqb, cases_eq}
 use Rattle.command_list.specs.declared.command.Barrier.{Barrier}
 use Rattle.command_list.specs.declared.fault.Fault.{Fault}
-use Rattle.command_list.specs.Seen.{number_of}
 use Rattle.device.specs.Meaning.{Meaning}
 use Rattle.resources.specs.Barriers.{Change, barriers_of, in_range, present, verdict}
 use Rattle.resources.specs.Batches.{Takes, Batched, Transitioned, transition_records}

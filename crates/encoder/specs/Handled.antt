@@ -10,8 +10,10 @@ abbrev pub answered : Result Unit Fault → Answer
 answered (Ok u) = taken
 answered (Err f) = refused (why_of f)
 
--- The call asked so, and has these records; a refused one left all as it was, a taken one left the next state, and its records were recorded.
-pub record Handled {X : Type 0} (asked : Option Why) (records : List Command) (next a : X) (m : Meaning) (r : Result Unit Fault) (b : X) (n : Meaning) : Type 0 where
+-- a call with these checks and records, from the state a to b and the meaning m to n: a refused one
+-- left all as it was, a taken one left the next state, and its records were recorded
+pub record Handled {X : Type 0} (asked : Option Why) (records : List Command) (next a : X)
+    (m : Meaning) (r : Result Unit Fault) (b : X) (n : Meaning) : Type 0 where
   pub answer : answered r ≡ judged asked (nat_le (sizes records) m.space)
   pub refused : is_taken (answered r) ≡ false → (b ≡ a) × (n ≡ m)
   pub state : is_taken (answered r) ≡ true → b ≡ next

@@ -1,5 +1,5 @@
 -- What each call of an encoder does.
-use Rattle.std.specs.Prelude.{◌≡◌, ℕ, Bool, true, false, cond, List, [], Some, None, Option, nat_le}
+use Rattle.std.specs.Prelude.{◌≡◌, Bool, true, false, cond, List, [], Some, None, Option, nat_le}
 use Rattle.command_list.specs.declared.command.Half.{Half}
 use Rattle.command_list.specs.declared.command.Half.TheVariants.{Graphics, Compute}
 use Rattle.command_list.specs.Commands.{Command}
@@ -139,7 +139,7 @@ unfoldable pub verdict : Scene → Call → Answer
 verdict s c =
     cond (offers s.stage c)
     (judged (asks s.own c (account_of s.stage))
-        (nat_le (sizes (records s.own c (account_of s.stage))) (start_of c s.meaning).space))
+    (nat_le (sizes (records s.own c (account_of s.stage))) (start_of c s.meaning).space))
     not_offered
 
 -- what a call does, from s to t, with its answer
@@ -148,4 +148,5 @@ pub record Does (s : Scene) (c : Call) (a : Answer) (t : Scene) : Type 0 where
   pub refused : is_taken a ≡ false → t ≡ s
   pub own : t.own ≡ s.own
   pub stage : is_taken a ≡ true → t.stage ≡ next c s.stage
-  pub recorded : is_taken a ≡ true → Recorded (start_of c s.meaning) (records s.own c (account_of s.stage)) t.meaning
+  pub recorded : is_taken a ≡ true
+      → Recorded (start_of c s.meaning) (records s.own c (account_of s.stage)) t.meaning

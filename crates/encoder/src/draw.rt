@@ -1,4 +1,4 @@
-// What draws and dispatches have in common.
+//! What draws and dispatches have in common.
 ghost use Rattle.std.specs.Prelude.{◌≡◌, ◌≤◌, true, [], ◌∷◌, ◌++◌, option_map};
 ghost use Rattle.command_list.specs.Commands.{size, readable};
 ghost use Rattle.command_list.specs.Seen.{fixed_command};
@@ -18,8 +18,8 @@ use passes::state::PassState;
 // The bytes of an indirect call's record.
 pub(crate) const INDIRECT_BYTES: usize = 21;
 
-// The touched slots are written, and then the draw's own record, all of it or nothing. A refused draw leaves no trace
-// of its special constants.
+// The dirty slots are written, and then the draw's own record, all of it or nothing. A refused draw
+// leaves no trace of its special constants.
 pub(crate) fn record_draw<R: Recorder>(
     recorder: &mut R,
     pass: &mut PassState,
@@ -30,7 +30,12 @@ pub(crate) fn record_draw<R: Recorder>(
     requires ranged { readable (fixed_command command) ≡ true }
     requires sized { bytes ≡ size (fixed_command command) }
     requires small { bytes ≤ 100 }
-    ensures { Handled (drawable (account pass.old).pipeline (account pass.old).roots.layout (account pass.old).roots.elements) (flushed (account pass.old).half (prepared_by own (account pass.old).roots) (account pass.old).vertices ++ (fixed_command command ∷ [])) (marked own (with_roots (prepared_by own (account pass.old).roots) (account pass.old))) (account pass.old) (R.meaning recorder.old) result (account pass.new) (R.meaning recorder.new) }
+    ensures { let a = account pass.old in
+        let roots = prepared_by own a.roots in
+        Handled (drawable a.pipeline a.roots.layout a.roots.elements)
+        (flushed a.half roots a.vertices ++ (fixed_command command ∷ []))
+        (marked own (with_roots roots a)) a (R.meaning recorder.old)
+        result (account pass.new) (R.meaning recorder.new) }
 {
     pass.check_draw()?;
     let replaced = pass.prepare(own);

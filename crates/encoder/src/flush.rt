@@ -1,4 +1,4 @@
-// Writes of the touched slots.
+//! Writes of the dirty slots of a pass.
 ghost use Rattle.std.specs.Prelude.{◌≡◌, ℕ, ◌*◌, ◌+◌, ◌<◌, ◌≤◌, true, List, [], ◌∷◌, length};
 ghost use Rattle.command_list.specs.Commands.{Command, size, readable};
 ghost use Rattle.device.specs.Meaning.{sizes};
@@ -44,7 +44,8 @@ fn put_words<R: Recorder>(
     requires within { slot < 64 }
     requires few { length words.now ≤ 64 }
     requires fits { sizes (word_commands half slot 0 words.now) ≤ (R.meaning recorder.old).space }
-    ensures { Put (R.meaning recorder.old) (word_commands half slot 0 words.now) result (R.meaning recorder.new) }
+    ensures { Put (R.meaning recorder.old) (word_commands half slot 0 words.now)
+        result (R.meaning recorder.new) }
 {
     for w in 0..words.len() {
         put(
@@ -76,7 +77,8 @@ trait Table {
     fn write<R: Recorder>(&self, recorder: &mut R, slot: u32) -> Result<(), Fault>
         requires within { slot < places }
         requires fits { sizes (commands self.now slot) ≤ (R.meaning recorder.old).space }
-        ensures { Put (R.meaning recorder.old) (commands self.now slot) result (R.meaning recorder.new) };
+        ensures { Put (R.meaning recorder.old) (commands self.now slot)
+            result (R.meaning recorder.new) };
 }
 
 impl Table for VertexState {
@@ -184,11 +186,13 @@ fn flush_size<T: Table>(table: &T, dirty: u64) -> usize
     size
 }
 
-// The touched slots are written, lowest first.
+// The dirty slots are written, lowest first.
 fn flush<R: Recorder, T: Table>(recorder: &mut R, table: &T, dirty: u64) -> Result<(), Fault>
     requires within { (k : ℕ) → bit dirty k ≡ true → k < T.Table.places }
-    requires fits { sizes (gathered (bit dirty) (T.Table.commands table.now) 0 64) ≤ (R.meaning recorder.old).space }
-    ensures { Put (R.meaning recorder.old) (gathered (bit dirty) (T.Table.commands table.now) 0 64) result (R.meaning recorder.new) }
+    requires fits { sizes (gathered (bit dirty) (T.Table.commands table.now) 0 64)
+        ≤ (R.meaning recorder.old).space }
+    ensures { Put (R.meaning recorder.old) (gathered (bit dirty) (T.Table.commands table.now) 0 64)
+        result (R.meaning recorder.new) }
 {
     let mut rest = dirty;
     while rest != 0 {
@@ -199,9 +203,10 @@ fn flush<R: Recorder, T: Table>(recorder: &mut R, table: &T, dirty: u64) -> Resu
     Ok(())
 }
 
-// The bytes that the touched slots of a pass take.
+// The bytes that the dirty slots of a pass take.
 pub(crate) fn pass_size(pass: &PassState) -> usize
-    ensures value { result ≡ sizes (flushed pass.now.kind (bound_of pass.now.roots) (views_of pass.now.vertices)) }
+    ensures value { let p = pass.now in
+        result ≡ sizes (flushed p.kind (bound_of p.roots) (views_of p.vertices)) }
     ensures small { result ≤ 128 * 288 }
 {
     let vertices = flush_size(
@@ -215,10 +220,14 @@ pub(crate) fn pass_size(pass: &PassState) -> usize
     vertices + flush_size(&table, pass.roots.dirty_root_elements)
 }
 
-// The touched slots of a pass are written: vertex slots, then root slots.
+// The dirty slots of a pass are written: vertex slots, then root slots.
 pub(crate) fn flush_pass<R: Recorder>(recorder: &mut R, pass: &PassState) -> Result<(), Fault>
-    requires { sizes (flushed pass.now.kind (bound_of pass.now.roots) (views_of pass.now.vertices)) ≤ (R.meaning recorder.old).space }
-    ensures { Put (R.meaning recorder.old) (flushed pass.now.kind (bound_of pass.now.roots) (views_of pass.now.vertices)) result (R.meaning recorder.new) }
+    requires { let p = pass.now in
+        sizes (flushed p.kind (bound_of p.roots) (views_of p.vertices))
+        ≤ (R.meaning recorder.old).space }
+    ensures { let p = pass.now in
+        Put (R.meaning recorder.old) (flushed p.kind (bound_of p.roots) (views_of p.vertices))
+        result (R.meaning recorder.new) }
 {
     flush(
         recorder,

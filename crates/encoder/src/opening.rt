@@ -1,9 +1,9 @@
-// What openings and endings of passes record.
-ghost use Rattle.std.specs.Prelude.{◌≡◌, ℕ, ◌≤◌, true, [], ◌∷◌, ◌++◌, length, map, None, option_map};
+//! What openings and endings of passes record.
+ghost use Rattle.std.specs.Prelude.{◌≡◌, ℕ, ◌≤◌, true, [], ◌∷◌, ◌++◌, length, map, take, None, option_map};
 ghost use Rattle.command_list.specs.Commands.{SetDescriptorHeaps, OMSetRenderTargets, size};
 ghost use Rattle.device.specs.Meaning.{sizes};
 ghost use Rattle.encoder.specs.Opening.{target_of, clears, clear_records, no_target, render_pass, compute_pass, asks_opening, opening_records, ending_records};
-ghost use Rattle.encoder.specs.Putting.{Put, Offered, event_records, CanBegin, frame_records};
+ghost use Rattle.encoder.specs.Putting.{Put, Offered, event_records, CanBegin, frame_records, colour_of, HaveTargets};
 ghost use Rattle.command_list.specs.Refusals.{fault_at, fault_of};
 
 use crate::attachment::{ColorAttachment, MAX_COLOR_ATTACHMENTS};
@@ -14,8 +14,8 @@ use command_list::fault::{FULL, Fault, Number};
 use device::recorder::Recorder;
 use labels::label::Label;
 
-// The bytes of the records: heaps, targets with none of them, each target, a clear, a viewport with a scissor, the end
-// of an event.
+// The bytes of the records: heaps, targets with none of them, each target, a clear, a viewport with
+// a scissor rectangle, the end of an event.
 const HEAPS_BYTES: usize = 4;
 
 const TARGETS_BYTES: usize = 4;
@@ -47,50 +47,50 @@ fn check_targets(null_target: u64, attachments: &[Option<ColorAttachment>]) -> R
     Ok(())
 }
 
-// The targets, in their order.
-fn put_targets<R: Recorder>(
-    recorder: &mut R,
+// The handles of the targets, each at its attachment's place.
+fn bound_targets(
     null_target: u64,
     attachments: &[Option<ColorAttachment>],
-) -> Result<(), Fault>
-    requires few { length attachments.now ≤ 8 }
-    requires fits { size (OMSetRenderTargets (map (target_of null_target) attachments.now)) ≤ (R.meaning recorder.old).space }
-    ensures { Put (R.meaning recorder.old) (OMSetRenderTargets (map (target_of null_target) attachments.now) ∷ []) result (R.meaning recorder.new) }
+) -> [u64; MAX_COLOR_ATTACHMENTS]
+    requires { length attachments.now ≤ 8 }
+    ensures { take (length attachments.now) result ≡ map (target_of null_target) attachments.now }
 {
     let mut targets = [0; MAX_COLOR_ATTACHMENTS];
     for place in 0..attachments.len() {
         targets[place] = target(null_target, &attachments[place]);
     }
-    put(
-        recorder,
-        Command::OMSetRenderTargets(&targets[..attachments.len()]),
-    )
+    targets
+}
+
+// The first targets are bound, in their order.
+fn put_targets<R: Recorder>(
+    recorder: &mut R,
+    targets: [u64; MAX_COLOR_ATTACHMENTS],
+    count: usize,
+) -> Result<(), Fault>
+    requires few { count ≤ 8 }
+    requires fits { size (OMSetRenderTargets (take count targets))
+        ≤ (R.meaning recorder.old).space }
+    ensures { Put (R.meaning recorder.old) (OMSetRenderTargets (take count targets) ∷ [])
+        result (R.meaning recorder.new) }
+{
+    put(recorder, Command::OMSetRenderTargets(&targets[..count]))
 }
 
 // Whether an attachment is cleared at the opening.
 fn is_cleared(attachment: &ColorAttachment) -> bool
     ensures { result ≡ clears attachment.now }
 {
-    attachment.ops >> 1 & 1 == 1
+    attachment.ops & ColorAttachment::LOAD_CLEAR != 0
 }
 
-// A clear of an attachment, if it is there and is cleared.
-fn put_clear<R: Recorder>(
-    recorder: &mut R,
-    attachment: &Option<ColorAttachment>,
-) -> Result<(), Fault>
-    requires { sizes (clear_records (attachment.now ∷ [])) ≤ (R.meaning recorder.old).space }
-    ensures { Put (R.meaning recorder.old) (clear_records (attachment.now ∷ [])) result (R.meaning recorder.new) }
+// The colour that an attachment is cleared to, if it is there and is cleared.
+fn clear_colour(attachment: &Option<ColorAttachment>) -> Option<[u32; 4]>
+    ensures { result ≡ colour_of attachment.now }
 {
     match *attachment {
-        Some(a) if is_cleared(&a) => put(
-            recorder,
-            Fixed::ClearRenderTargetView {
-                target: a.target,
-                colour: a.clear_value,
-            },
-        ),
-        _ => Ok(()),
+        Some(a) if is_cleared(&a) => Some(a.clear_value),
+        _ => None,
     }
 }
 
@@ -99,9 +99,9 @@ fn clear_size(attachment: &Option<ColorAttachment>) -> usize
     ensures value { result ≡ sizes (clear_records (attachment.now ∷ [])) }
     ensures small { result ≤ 27 }
 {
-    match *attachment {
-        Some(a) if is_cleared(&a) => CLEAR_BYTES,
-        _ => 0,
+    match clear_colour(attachment) {
+        Some(_) => CLEAR_BYTES,
+        None => 0,
     }
 }
 
@@ -118,16 +118,23 @@ fn clears_size(attachments: &[Option<ColorAttachment>]) -> usize
     size
 }
 
-// All clears, in the attachments' order.
+// All clears, in the attachments' order, each of the target at its place.
 fn put_clears<R: Recorder>(
     recorder: &mut R,
+    targets: [u64; MAX_COLOR_ATTACHMENTS],
     attachments: &[Option<ColorAttachment>],
 ) -> Result<(), Fault>
-    requires { sizes (clear_records attachments.now) ≤ (R.meaning recorder.old).space }
-    ensures { Put (R.meaning recorder.old) (clear_records attachments.now) result (R.meaning recorder.new) }
+    requires few { length attachments.now ≤ 8 }
+    requires bound { HaveTargets targets attachments.now }
+    requires fits { sizes (clear_records attachments.now) ≤ (R.meaning recorder.old).space }
+    ensures { Put (R.meaning recorder.old) (clear_records attachments.now)
+        result (R.meaning recorder.new) }
 {
     for place in 0..attachments.len() {
-        put_clear(recorder, &attachments[place])?;
+        if let Some(colour) = clear_colour(&attachments[place]) {
+            let target = targets[place];
+            put(recorder, Fixed::ClearRenderTargetView { target, colour })?;
+        }
     }
     Ok(())
 }
@@ -148,7 +155,8 @@ fn event_size(units: &[u16]) -> usize
 fn put_event<R: Recorder>(recorder: &mut R, units: &[u16]) -> Result<(), Fault>
     requires begins { CanBegin units.now }
     requires fits { sizes (event_records units.now) ≤ (R.meaning recorder.old).space }
-    ensures { Put (R.meaning recorder.old) (event_records units.now) result (R.meaning recorder.new) }
+    ensures { Put (R.meaning recorder.old) (event_records units.now)
+        result (R.meaning recorder.new) }
 {
     if units.is_empty() {
         return Ok(());
@@ -166,7 +174,10 @@ fn record_render<R: Recorder>(
 ) -> Result<(), Fault>
     requires begins { CanBegin units.now }
     requires few { length attachments.now ≤ 8 }
-    ensures { Offered (fault_at 3 (no_target 0 null_target attachments.now)) (event_records units.now ++ frame_records null_target extent.width extent.height attachments.now) (R.meaning recorder.old) result (R.meaning recorder.new) }
+    ensures { let frame = frame_records null_target extent.width extent.height attachments.now in
+        Offered (fault_at 3 (no_target 0 null_target attachments.now))
+        (event_records units.now ++ frame) (R.meaning recorder.old)
+        result (R.meaning recorder.new) }
 {
     check_targets(null_target, attachments)?;
     let targets_size = TARGETS_BYTES + TARGET_BYTES * attachments.len();
@@ -176,8 +187,9 @@ fn record_render<R: Recorder>(
     }
     put_event(recorder, units)?;
     put(recorder, Fixed::SetDescriptorHeaps(true))?;
-    put_targets(recorder, null_target, attachments)?;
-    put_clears(recorder, attachments)?;
+    let targets = bound_targets(null_target, attachments);
+    put_targets(recorder, targets, attachments.len())?;
+    put_clears(recorder, targets, attachments)?;
     put(recorder, Fixed::RSSetViewports(extent.viewport()))?;
     put(
         recorder,
@@ -193,7 +205,8 @@ fn record_render<R: Recorder>(
 // A compute pass's label and heaps.
 fn record_compute<R: Recorder>(recorder: &mut R, units: &[u16]) -> Result<(), Fault>
     requires { CanBegin units.now }
-    ensures { Offered None (event_records units.now ++ (SetDescriptorHeaps true ∷ [])) (R.meaning recorder.old) result (R.meaning recorder.new) }
+    ensures { Offered None (event_records units.now ++ (SetDescriptorHeaps true ∷ []))
+        (R.meaning recorder.old) result (R.meaning recorder.new) }
 {
     if recorder.space() < event_size(units) + HEAPS_BYTES {
         return Err(FULL);
@@ -204,7 +217,8 @@ fn record_compute<R: Recorder>(recorder: &mut R, units: &[u16]) -> Result<(), Fa
 
 // The end of a pass: heaps off, and the end of its label's event.
 pub(crate) fn record_ending<R: Recorder>(recorder: &mut R, labelled: bool) -> Result<(), Fault>
-    ensures { Offered None (ending_records labelled) (R.meaning recorder.old) result (R.meaning recorder.new) }
+    ensures { Offered None (ending_records labelled) (R.meaning recorder.old)
+        result (R.meaning recorder.new) }
 {
     let event_bytes = if labelled { EVENT_END_BYTES } else { 0 };
     if recorder.space() < HEAPS_BYTES + event_bytes {
@@ -226,7 +240,10 @@ pub(crate) fn open_render<R: Recorder>(
     height: u32,
     attachments: &[Option<ColorAttachment>],
 ) -> Result<(), Fault>
-    ensures { Offered (asks_opening null_target (render_pass (option_map (λ b. b.now) label.entry) width height attachments.now)) (opening_records null_target (render_pass (option_map (λ b. b.now) label.entry) width height attachments.now)) (R.meaning recorder.old) result (R.meaning recorder.new) }
+    ensures { let bytes = option_map (λ b. b.now) label.entry in
+        let pass = render_pass bytes width height attachments.now in
+        Offered (asks_opening null_target pass) (opening_records null_target pass)
+        (R.meaning recorder.old) result (R.meaning recorder.new) }
 {
     if attachments.len() > MAX_COLOR_ATTACHMENTS {
         return Err(Number::Range.at(MAX_COLOR_ATTACHMENTS));
@@ -243,7 +260,9 @@ pub(crate) fn open_render<R: Recorder>(
 
 // The opening of a compute pass.
 pub(crate) fn open_compute<R: Recorder>(recorder: &mut R, label: Option<&[u8]>) -> Result<(), Fault>
-    ensures { (null : ℕ) → Offered (asks_opening null (compute_pass (option_map (λ b. b.now) label.entry))) (opening_records null (compute_pass (option_map (λ b. b.now) label.entry))) (R.meaning recorder.old) result (R.meaning recorder.new) }
+    ensures { let pass = compute_pass (option_map (λ b. b.now) label.entry) in
+        (null : ℕ) → Offered (asks_opening null pass) (opening_records null pass)
+        (R.meaning recorder.old) result (R.meaning recorder.new) }
 {
     match label {
         None => record_compute(recorder, &[]),

@@ -1,4 +1,4 @@
-// What the pipeline calls of both kinds of pass have in common.
+//! What the pipeline calls of both kinds of pass have in common.
 ghost use Rattle.std.specs.Prelude.{◌≡◌, ◌≤◌, [], ◌∷◌, ◌++◌};
 ghost use Rattle.device.specs.Meaning.{sizes};
 ghost use Rattle.passes.specs.Calls.{set_render_pipeline, set_compute_pipeline, signature_first, asks_set, set_records, after_set};
@@ -13,12 +13,14 @@ use device::recorder::Recorder;
 use layouts::pipeline::{ComputePipeline, RenderPipeline};
 use passes::state::PassState;
 
-// The bytes of a record with one operand of four bytes: a root signature's, a pipeline's, a topology's.
+// The bytes of a record with one operand of four bytes: a root signature's, a pipeline's, a
+// topology's.
 const NUMBER_BYTES: usize = 7;
 
 // The bytes of the root signature, where it comes first.
 fn signature_size(pass: &PassState, signature: u32) -> usize
-    ensures value { result ≡ sizes (signature_first (account pass.now).half signature (account pass.now).roots.layout (account pass.now).pipeline) }
+    ensures value { let a = account pass.now in
+        result ≡ sizes (signature_first a.half signature a.roots.layout a.pipeline) }
     ensures small { result ≤ 7 }
 {
     if pass.needs_signature(signature) {
@@ -34,8 +36,12 @@ fn put_signature<R: Recorder>(
     pass: &PassState,
     signature: u32,
 ) -> Result<(), Fault>
-    requires { sizes (signature_first (account pass.now).half signature (account pass.now).roots.layout (account pass.now).pipeline) ≤ (R.meaning recorder.old).space }
-    ensures { Put (R.meaning recorder.old) (signature_first (account pass.now).half signature (account pass.now).roots.layout (account pass.now).pipeline) result (R.meaning recorder.new) }
+    requires { let a = account pass.now in
+        sizes (signature_first a.half signature a.roots.layout a.pipeline)
+        ≤ (R.meaning recorder.old).space }
+    ensures { let a = account pass.now in
+        Put (R.meaning recorder.old) (signature_first a.half signature a.roots.layout a.pipeline)
+        result (R.meaning recorder.new) }
 {
     if pass.needs_signature(signature) {
         let half = pass.kind;
@@ -49,7 +55,10 @@ pub(crate) fn record_render_pipeline<R: Recorder>(
     pass: &mut PassState,
     pipeline: &RenderPipeline,
 ) -> Result<(), Fault>
-    ensures { Handled (asks_set (set_render_pipeline pipeline.now) (account pass.old).roots.layout) (set_records (set_render_pipeline pipeline.now) (account pass.old)) (after_set (set_render_pipeline pipeline.now) (account pass.old)) (account pass.old) (R.meaning recorder.old) result (account pass.new) (R.meaning recorder.new) }
+    ensures { let a = account pass.old in
+        let call = set_render_pipeline pipeline.now in
+        Handled (asks_set call a.roots.layout) (set_records call a) (after_set call a) a
+        (R.meaning recorder.old) result (account pass.new) (R.meaning recorder.new) }
 {
     pass.check_pipeline(pipeline.handle, &pipeline.layout)?;
     let signature = pipeline.layout.signature();
@@ -68,7 +77,10 @@ pub(crate) fn record_compute_pipeline<R: Recorder>(
     pass: &mut PassState,
     pipeline: &ComputePipeline,
 ) -> Result<(), Fault>
-    ensures { Handled (asks_set (set_compute_pipeline pipeline.now) (account pass.old).roots.layout) (set_records (set_compute_pipeline pipeline.now) (account pass.old)) (after_set (set_compute_pipeline pipeline.now) (account pass.old)) (account pass.old) (R.meaning recorder.old) result (account pass.new) (R.meaning recorder.new) }
+    ensures { let a = account pass.old in
+        let call = set_compute_pipeline pipeline.now in
+        Handled (asks_set call a.roots.layout) (set_records call a) (after_set call a) a
+        (R.meaning recorder.old) result (account pass.new) (R.meaning recorder.new) }
 {
     pass.check_pipeline(pipeline.handle, &pipeline.layout)?;
     let signature = pipeline.layout.signature();

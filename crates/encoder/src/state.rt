@@ -1,4 +1,4 @@
-//! What belongs to a list beside its recorder.
+//! What an encoder keeps beside its recorder.
 
 /// What an encoder keeps for its list beside the recorder, in every phase.
 #[derive(Clone, Copy)]

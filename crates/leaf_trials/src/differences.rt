@@ -171,7 +171,7 @@ fn nine_attachments(rt: HostRuntime) -> Result<(), Fail> {
     let attachments = [Some(TARGET); 9];
     let calls = [Call::BeginEncoding, open(&attachments)];
     let mut bytes = [0u8; 1024];
-    let (_, answers) = driven(ListBytes::new(&mut bytes), &calls);
+    let (_, answers) = driven(ListBytes::new(&mut bytes)?, &calls);
     let Answer::Refused(fault) = answers[1] else {
         return Err(Fail::new("the opening is not refused"));
     };

@@ -54,7 +54,7 @@ fn at_most_256_bytes(rt: HostRuntime) -> Result<(), Fail> {
 fn a_label_as_a_record(rt: HostRuntime) -> Result<(), Fail> {
     let label = Label::new(&[0xC3, 0xA9])?;
     let mut bytes = [0u8; 8];
-    let mut list = ListBytes::new(&mut bytes);
+    let mut list = ListBytes::new(&mut bytes)?;
     list.begin_event(label.units())?;
     assert!(rt; list.list() == [1, 0x00, 0x05, 0x01, 0x00, 0xE9, 0x00, 0x00].as_slice());
     Ok(())

@@ -161,9 +161,9 @@ fn given<R: Recorder + Drop>(recorder: R, commands: &[Command<'_>]) -> Result<R,
 // Whether calls over list bytes make the same list as commands that are recorded one by one.
 pub(crate) fn agree(calls: &[Call<'_>], commands: &[Command<'_>]) -> Result<bool, Fault> {
     let mut made = [0u8; 1024];
-    let (list, _) = driven(ListBytes::new(&mut made), calls);
+    let (list, _) = driven(ListBytes::new(&mut made)?, calls);
     let mut wanted = [0u8; 1024];
-    let other = given(ListBytes::new(&mut wanted), commands)?;
+    let other = given(ListBytes::new(&mut wanted)?, commands)?;
     Ok(list.list() == other.list())
 }
 
@@ -272,7 +272,7 @@ fn first_draw_fits(bytes: &mut [u8]) -> Result<bool, Fault> {
         group(&parts),
         curve(7, &parts),
     ];
-    let (_, answers) = driven(ListBytes::new(bytes), &calls);
+    let (_, answers) = driven(ListBytes::new(bytes)?, &calls);
     Ok(matches!(answers[5], Answer::Taken))
 }
 
@@ -357,7 +357,7 @@ fn a_draw_without_its_group(rt: HostRuntime) -> Result<(), Fail> {
         curve(7, &parts),
     ];
     let mut bytes = [0u8; 1024];
-    let (_, answers) = driven(ListBytes::new(&mut bytes), &calls);
+    let (_, answers) = driven(ListBytes::new(&mut bytes)?, &calls);
     let Answer::Refused(fault) = answers[4] else {
         return Err(Fail::new("the draw is not refused"));
     };
@@ -411,7 +411,7 @@ fn changes_of_usage(rt: HostRuntime) -> Result<(), Fail> {
 }
 
 #[test]
-fn a_labelled_pass(rt: HostRuntime) {
+fn a_labelled_pass(rt: HostRuntime) -> Result<(), Fail> {
     let label = [0xC3, 0xA9];
     let calls = [
         Call::BeginEncoding,
@@ -420,6 +420,7 @@ fn a_labelled_pass(rt: HostRuntime) {
         },
     ];
     let mut bytes = [0u8; 1024];
-    let (list, _) = driven(ListBytes::new(&mut bytes), &calls);
+    let (list, _) = driven(ListBytes::new(&mut bytes)?, &calls);
     assert!(rt; list.list() == [1, 0, 5, 1, 0, 0xE9, 0, 0, 0, 2, 3, 1].as_slice());
+    Ok(())
 }

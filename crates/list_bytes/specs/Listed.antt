@@ -1,11 +1,11 @@
--- What list bytes mean: it is read off the bytes themselves.
+-- The meaning of list bytes: that of the list file that they begin with.
 use Rattle.std.specs.Prelude.{◌≡◌, ℕ, ◌-◌, ◌≤◌, Bool, List, [], length, take, Some}
 use Rattle.command_list.specs.Commands.{Command}
 use Rattle.command_list.specs.Files.{Verdict, accepted, refused, file, is_accepted}
 use Rattle.device.specs.Devices.{play, start}
 use Rattle.device.specs.Meaning.{Meaning}
 
--- the first n bytes are a list file
+-- the first n bytes are a list file that the reader accepts
 abbrev pub is_whole : List ℕ → ℕ → Bool
 is_whole bs n = is_accepted (file (take n bs))
 
@@ -13,7 +13,7 @@ abbrev pub commands_in : Verdict → List Command
 commands_in (accepted cs) = cs
 commands_in (refused r p) = []
 
--- the state is what the first n of the bytes play to; the first byte is the version
+-- the meaning of bytes of which the first n are a list file
 abbrev pub listed : List ℕ → ℕ → Meaning
 listed bs n = record {
   device = play (commands_in (file (take n bs))) start;
@@ -22,7 +22,7 @@ listed bs n = record {
   shown = Some (commands_in (file (take n bs)));
 }
 
--- so many bytes can hold a list
+-- a list can be kept in n bytes
 abbrev pub HoldsList : ℕ → Type 0
 HoldsList n = (1 ≤ n) × (n ≤ 65536)
 

@@ -1,4 +1,5 @@
-// A recorder that writes its commands into the caller's bytes.
+//! A recorder whose commands are a list file in bytes that the caller lends. No memory is taken: a
+//! `ListBytes` is those bytes and how many of them the list file uses.
 #![tactic(auto)]
 
 ghost use Rattle.std.specs.Prelude.{◌≡◌, ◌↔◌, ◌≤◌, true, [], ◌∷◌, ◌++◌, length, drop, IsOk, IfOk, IfErr};
@@ -11,8 +12,8 @@ use command_list::fault::Fault;
 use device::recorder::Recorder;
 use list_writer::writer::{Recordable, begin};
 
-// The caller's bytes, of which those in use are a list file. One of no bytes at all has no space.
-// The bytes are lent, with the number of those in use beside them: no list here has memory of its own.
+/// 1 to 65536 bytes of the caller's, which begin with a list file: the version byte, then a record
+/// for each command.
 #[derive(Drop)]
 pub struct ListBytes<'a> {
     bytes: &'a mut [u8],
@@ -25,9 +26,8 @@ pub struct ListBytes<'a> {
 impl<'a> ListBytes<'a> {
     ghost use Rattle.list_bytes.specs.Lists.{meaning_of, in_use, unused};
 
-    /// An empty list over the caller's bytes: its version stands in the first of them, the others
-    /// are as they were. Refused with 10 where they are none or more than 65536, before anything is
-    /// written.
+    /// An empty list: the version byte is written, and nothing else. Refused with 10 at place 0
+    /// where there is no byte or there are more than 65536; then nothing is written.
     pub fn new(bytes: &'a mut [u8]) -> Result<ListBytes<'a>, Fault>
         ensures taken { IsOk result ↔ HoldsList (length bytes.old) }
         ensures opened { IfOk result (λ s.
@@ -40,14 +40,14 @@ impl<'a> ListBytes<'a> {
         Ok(ListBytes { bytes, len })
     }
 
-    // The bytes that the list takes, for reading.
+    /// The list file.
     pub fn list(&self) -> &[u8]
         ensures { result.now ≡ in_use self.now }
     {
         &self.bytes[0..self.len]
     }
 
-    // The bytes back, and how many of them the list takes.
+    /// Gives the bytes back, and says how many of them the list file uses.
     pub fn finish(self) -> (usize, &'a mut [u8])
         ensures means { listed result.1.now result.0 ≡ listed self.entry.bytes.now self.entry.len }
         ensures len { result.0 ≡ self.entry.len }
@@ -75,7 +75,7 @@ impl<'a> Recorder for ListBytes<'a> {
         self.len = 1;
     }
 
-    // Inlined, for the writer's sake.
+    // Inlined, so that the writer sees which command it writes.
     #[inline(always)]
     fn record<C: Recordable>(&mut self, command: C) -> Result<(), Fault>
         ensures asked { Asked (meaning_of self.old) (C.says command) result (meaning_of self.new) }

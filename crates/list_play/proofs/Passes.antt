@@ -1,5 +1,5 @@
 -- A file that has been played up to a place.
-use Rattle.std.proofs.Common.{◌≡◌, ℕ, ◌+◌, ◌-◌, ◌<◌, ◌≤◌, true, List, [], ◌∷◌, ◌++◌, length, drop, sym, refl, ap, ◌∙◌, arith}
+use Rattle.std.proofs.Common.{◌≡◌, ℕ, ◌+◌, ◌-◌, ◌<◌, ◌≤◌, true, List, [], ◌∷◌, ◌++◌, length, drop, None, sym, refl, ap, ◌∙◌, subst, arith}
 use Rattle.std.proofs.lemmas.List.{length-drop}
 use Rattle.std.proofs.lemmas.Bool.{false≢true}
 use Rattle.command_list.specs.declared.fault.Fault.{Fault}
@@ -11,7 +11,9 @@ use Rattle.command_list.proofs.Fronts.{front_within}
 use Rattle.list_writer.proofs.Bytewise.{Bytes, bytes_drop}
 use Rattle.list_writer.proofs.Whole.{some_byte, front_readable}
 use Rattle.list_file.proofs.Tails.{tail, file_tail, step_some, step_none, step_stop, tail_first, tail_ended, tail_broken, not_open, before, before_more, before_end, before_refused}
+use Rattle.device.specs.Devices.{start}
 use Rattle.device.specs.Meaning.{Meaning, sizes, Recorded, Taken, Refused}
+use Rattle.list_play.specs.Playing.{blank, Filled, Whole}
 use Rattle.device.proofs.Runs.{recorded_none, recorded_then, sizes_append}
 
 -- the commands of bs before the place at were recorded between m and n
@@ -66,3 +68,10 @@ module _ (bs : List ℕ) (at : ℕ) (m n : Meaning) (w : Passed bs at m n) where
 pub accepted_some : (bs : List ℕ) → is_accepted (file bs) ≡ true → 1 ≤ length bs
 accepted_some [] a = absurd (not_open [] a refl)
 accepted_some (b ∷ bs) a = omega arith
+
+-- what was played on an empty board of as many bytes as the file has
+pub filled : (m n : Meaning) (bs : List ℕ) (k : ℕ) → m.device ≡ start → m.space ≡ length bs → m.made ≡ length bs → m.shown ≡ None
+    → Whole m bs k n → Filled bs n
+filled m n bs k d s e o w =
+    let b : m ≡ blank (length bs) = λ i. record { device = d i; space = s i; made = e i; shown = o i } in
+    (k, subst (λ x. Whole x bs k n) b w)

@@ -1,19 +1,28 @@
--- What it comes to when a list file is played on a recorder.
-use Rattle.std.specs.Prelude.{◌≡◌, ℕ, ◌+◌, ◌<◌, List, length, Ok, Err, Result}
+-- A list file is played on a recorder.
+use Rattle.std.specs.Prelude.{◌≡◌, ℕ, ◌+◌, ◌<◌, List, length, None, Ok, Err, Result}
 use Rattle.command_list.specs.declared.fault.Fault.{Fault}
 use Rattle.command_list.specs.Commands.{Command}
 use Rattle.command_list.specs.Files.{Verdict, accepted, refused, file}
 use Rattle.command_list.specs.Seen.{IsFault}
+use Rattle.device.specs.Devices.{start}
 use Rattle.device.specs.Meaning.{Meaning, Recorded}
 
--- the file bs is accepted, and between m and n exactly its k commands were recorded
+-- the file bs is accepted; its k commands were recorded on a recorder of meaning m, now n
 pub record Whole (m : Meaning) (bs : List ℕ) (k : ℕ) (n : Meaning) : Type 0 where
   pub commands : List Command
   pub says : file bs ≡ accepted commands
   pub many : length commands ≡ k
   pub recorded : Recorded m commands n
 
--- f is the first refusal of bs, or its records are longer than the space
+-- an empty board of n bytes
+abbrev pub blank : ℕ → Meaning
+blank n = record { device = start; space = n; made = n; shown = None }
+
+-- nothing but the file bs was played on an empty board of as many bytes
+abbrev pub Filled : List ℕ → Meaning → Type 0
+Filled bs n = (k : ℕ) × Whole (blank (length bs)) bs k n
+
+-- f is how the file breaks a rule, or its records do not fit
 abbrev pub Unplayed : Verdict → Meaning → List ℕ → Fault → Type 0
 Unplayed (accepted cs) m bs f = IsFault f 10 0 × (m.space + 1 < length bs)
 Unplayed (refused r p) m bs f = IsFault f r p

@@ -16,7 +16,7 @@ use Rattle.layouts.proofs.Wholeness.{whole, is_immediates, is_special, special_s
 use Rattle.bindings.specs.declared.constants.SpecialConstants.{SpecialConstants as Constants}
 use Rattle.passes.specs.declared.element.RootElement.{RootElement}
 use Rattle.passes.specs.declared.element.RootElement.TheVariants.{Empty, Immediates, SpecialConstants, DescriptorTable, DynamicUniformBuffer}
-use Rattle.passes.specs.Account.{Bound, slot_of, special_slot, own_slot_of, own_slot, current_special, is_constants, fits_owner}
+use Rattle.passes.specs.Account.{Bound, slot_of, special_slot, own_slot_of, own_slot, current_special, is_constants, fits_owner, is_special_element}
 use Rattle.passes.specs.Flush.{Value, nothing, table_at, view_at, words_are, firsts, words_used, size_of, constant_words, element_value, value_at}
 
 -- ---- owners
@@ -49,7 +49,7 @@ owner_there l k h e = true≢false (sym (lt-ltb k l.total_root_elements h) ∙ s
 pub not_special : (l : PipelineLayout) (o : Owner) (k : ℕ) → (o ≡ Special → ⊥) → owner_in l k ≡ Some o → special_slot l ≡ Some k → ⊥
 not_special l o k n e q = n (same_Some o Special (sym e ∙ (special_owner l k q).1))
 
--- the slot of an own indirect signature is the special slot
+-- the slot of a layout with its own command signature is the special slot
 pub own_special : (o : Option PipelineLayout) (i : ℕ) → own_slot o ≡ Some i → current_special o ≡ Some i
 own_special None i e = absurd (none-some i e)
 own_special (Some l) i e = by l.special_constants e
@@ -84,50 +84,31 @@ group_below l i g is j low high = let few = (whole l).few in ⊎_elim (λ o. ome
 
 -- ---- elements and their values
 
-abbrev pub is_special_element : RootElement → Bool
-is_special_element Empty = false
-is_special_element Immediates = false
-is_special_element (SpecialConstants s) = true
-is_special_element (DescriptorTable a) = false
-is_special_element (DynamicUniformBuffer a) = false
-
 -- special constants, or nothing
 abbrev pub may_be_special : RootElement → Bool
 may_be_special Empty = true
-may_be_special Immediates = false
 may_be_special (SpecialConstants s) = true
-may_be_special (DescriptorTable a) = false
-may_be_special (DynamicUniformBuffer a) = false
+may_be_special _ = false
 
 pub special_may : (x : RootElement) → is_special_element x ≡ true → may_be_special x ≡ true
 special_may Empty e = refl
-special_may Immediates e = e
 special_may (SpecialConstants s) e = refl
-special_may (DescriptorTable a) e = e
-special_may (DynamicUniformBuffer a) e = e
+special_may _ e = e
 
 pub constants_special : (s : Constants) (x : RootElement) → is_constants s x ≡ true → is_special_element x ≡ true
-constants_special s Empty e = e
-constants_special s Immediates e = e
 constants_special s (SpecialConstants t) e = refl
-constants_special s (DescriptorTable a) e = e
-constants_special s (DynamicUniformBuffer a) e = e
+constants_special s _ e = e
 
 -- a value that takes a command
 abbrev pub solid : Value → Bool
 solid nothing = false
-solid (table_at a) = true
-solid (view_at a) = true
 solid (words_are []) = false
-solid (words_are (v ∷ vs)) = true
+solid _ = true
 
 -- a value is by the immediates and the layout
 pub value_by : (h : Half) (b c : Bound) → c.immediates ≡ b.immediates → c.layout ≡ b.layout → (x : RootElement) → element_value h c x ≡ element_value h b x
-value_by h b c p q Empty = refl
 value_by h b c p q Immediates = λ i. words_are (firsts (p i) 0 (words_used (q i)))
-value_by h b c p q (SpecialConstants s) = refl
-value_by h b c p q (DescriptorTable a) = refl
-value_by h b c p q (DynamicUniformBuffer a) = refl
+value_by h b c p q _ = refl
 
 -- other words change no value but the immediates'
 pub value_else : (l : PipelineLayout) (h : Half) (b c : Bound) (k : ℕ) (x : RootElement)
@@ -137,15 +118,11 @@ value_else l h b c k x lt n f s = by (owner_in l k) x (owner_there l k lt) n f s
   where
     by : (o : Option Owner) (x : RootElement) → (o ≡ None → ⊥) → (o ≡ Some ImmediatesOwner → ⊥) → fits_owner o x ≡ true → (o ≡ Some Special → may_be_special x ≡ true)
         → element_value h c x ≡ element_value h b x
-    by o Empty a n f s = refl
-    by o (SpecialConstants t) a n f s = refl
-    by o (DescriptorTable t) a n f s = refl
-    by o (DynamicUniformBuffer t) a n f s = refl
     by None Immediates a n f s = absurd (a refl)
-    by (Some Table) Immediates a n f s = absurd (false≢true f)
-    by (Some Uniform) Immediates a n f s = absurd (false≢true f)
     by (Some ImmediatesOwner) Immediates a n f s = absurd (n refl)
     by (Some Special) Immediates a n f s = absurd (false≢true (s refl))
+    by (Some _) Immediates a n f s = absurd (false≢true f)
+    by _ _ a n f s = refl
 
 firsts_solid : (f : ℕ → ℕ) (n : ℕ) → 1 ≤ n → solid (words_are (firsts f 0 n)) ≡ true
 firsts_solid f zero e = absurd (omega arith)
@@ -156,11 +133,8 @@ words_solid Graphics s = refl
 words_solid Compute s = refl
 
 pub special_solid : (h : Half) (b : Bound) (x : RootElement) → is_special_element x ≡ true → solid (element_value h b x) ≡ true
-special_solid h b Empty e = absurd (false≢true e)
-special_solid h b Immediates e = absurd (false≢true e)
 special_solid h b (SpecialConstants s) e = words_solid h s
-special_solid h b (DescriptorTable a) e = absurd (false≢true e)
-special_solid h b (DynamicUniformBuffer a) e = absurd (false≢true e)
+special_solid h b _ e = absurd (false≢true e)
 
 -- the value of an element that fits its owner takes a command
 pub fit_solid : (l : PipelineLayout) (h : Half) (b : Bound) (k : ℕ) → b.layout ≡ Some l → k < l.total_root_elements
@@ -176,21 +150,10 @@ fit_solid l h b k is lt f s =
         → (o ≡ Some ImmediatesOwner → 1 ≤ words_used b.layout) → solid (element_value h b x) ≡ true
     by None x a f s i = absurd (a refl)
     by (Some Special) x a f s i = special_solid h b x (s refl)
-    by (Some Table) Empty a f s i = absurd (false≢true f)
-    by (Some Table) Immediates a f s i = absurd (false≢true f)
-    by (Some Table) (SpecialConstants t) a f s i = absurd (false≢true f)
     by (Some Table) (DescriptorTable t) a f s i = refl
-    by (Some Table) (DynamicUniformBuffer t) a f s i = absurd (false≢true f)
-    by (Some Uniform) Empty a f s i = absurd (false≢true f)
-    by (Some Uniform) Immediates a f s i = absurd (false≢true f)
-    by (Some Uniform) (SpecialConstants t) a f s i = absurd (false≢true f)
-    by (Some Uniform) (DescriptorTable t) a f s i = absurd (false≢true f)
     by (Some Uniform) (DynamicUniformBuffer t) a f s i = refl
-    by (Some ImmediatesOwner) Empty a f s i = absurd (false≢true f)
     by (Some ImmediatesOwner) Immediates a f s i = firsts_solid b.immediates (words_used b.layout) (i refl)
-    by (Some ImmediatesOwner) (SpecialConstants t) a f s i = absurd (false≢true f)
-    by (Some ImmediatesOwner) (DescriptorTable t) a f s i = absurd (false≢true f)
-    by (Some ImmediatesOwner) (DynamicUniformBuffer t) a f s i = absurd (false≢true f)
+    by (Some _) _ a f s i = absurd (false≢true f)
 
 pub solid_known : (v : Value) → solid v ≡ true → v ≡ nothing → ⊥
 solid_known v s e = true≢false (sym s ∙ ap solid e)

@@ -1,4 +1,4 @@
--- What the questions of a call asked, where every one says yes.
+-- What the checks of a call say, where none of them fails.
 use Rattle.std.proofs.Common.{◌≡◌, ℕ, zero, suc, ◌+◌, ◌<◌, ◌≤◌, Bool, true, false, cond, ◌&&◌, eqb, ltb, List, [], ◌∷◌, length, is_some, Some, None, Option, sym, refl, ap, ◌∙◌, ⊎_elim, arith}
 use Rattle.std.proofs.lemmas.Bool.{true≢false, false≢true, eqb-true, ltb-true, cases_eq, and_parts, cond-true}
 use Rattle.command_list.specs.declared.fault.Fault.{Fault}

@@ -227,6 +227,15 @@ abbrev pub fits_owner : Option Owner → RootElement → Bool
 fits_owner None e = true
 fits_owner (Some o) e = is_of o e
 
+abbrev pub is_special_element : RootElement → Bool
+is_special_element (SpecialConstants s) = true
+is_special_element _ = false
+
+-- an element of its owner's kind: at the special slot, special constants
+abbrev pub is_of_kind : Option Owner → RootElement → Bool
+is_of_kind (Some Special) e = is_special_element e
+is_of_kind o e = fits_owner o e
+
 -- the first of n slots from k on whose element is not of its owner's kind
 unfoldable pub unfit : PipelineLayout → (ℕ → RootElement) → ℕ → ℕ → Option ℕ
 unfit l f k n = first_from k (λ j. fits_owner (owner_in l j) (f j)) (range_with_len k n)

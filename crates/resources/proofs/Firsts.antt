@@ -1,4 +1,4 @@
--- The barrier rule by cases, and the first item that fails a question.
+-- The first change that fails a check.
 use Rattle.std.proofs.Common.{◌≡◌, ℕ, ◌+◌, Bool, true, false, cond, not, List, [], ◌∷◌, Some, None, Ok, Err, Option, Result, sym, refl, ap, ◌∙◌, subst, inl, inr, ⊎_elim, arith}
 use Rattle.std.proofs.lemmas.Bool.{cond-true, cond-false, cases_Bool}
 use Rattle.std.specs.List.{position, position_from}
@@ -12,7 +12,7 @@ use Rattle.resources.specs.Listed.{change_of, changes_of}
 use Rattle.command_list.specs.Refusals.{first_from, Why, fault, why_of, fault_at, before, fault_of, AllPass, First}
 use Rattle.command_list.proofs.Refusing.{first_none, first_at}
 
--- the first item that fails a question, in the library's words
+-- the first change that fails a check, in std's words
 first_from_position : {U : Type 0} (usage : U → Usage) (good : Change → Bool) (i : ℕ) (bs : List (ResourceBarrier U)) → position_from (λ b. not (good (change_of usage b))) i bs ≡ first_from i good (changes_of usage bs)
 first_from_position usage good i [] = refl
 first_from_position usage good i (b ∷ bs) =

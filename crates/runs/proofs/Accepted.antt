@@ -15,11 +15,12 @@ use Rattle.passes.specs.Account.{Account, own_slot}
 use Rattle.passes.specs.Calls.{SetCall, set_bind_group, set_immediates, set_render_pipeline, set_compute_pipeline, set_vertex_buffer, addresses, set_roots, set_pipeline, set_records, asks_set, DrawCall, draw, draw_indirect, dispatch, dispatch_indirect, own_constants, prepared, wiped_slot, after_draw, own_command, draw_records, asks_draw}
 use Rattle.passes.specs.Flush.{flushed}
 use Rattle.encoder.specs.Opening.{half_of, is_labelled, label_of, quiet_records}
+use Rattle.encoder.specs.declared.state.ListState.{ListState}
 use Rattle.encoder.specs.Scenes.{Call, begin_encoding, end_encoding, discard_encoding, opening, ending, quiet, set, drawing, Stage, idle, recording, in_pass, account_of, pass_draws, offers, next, records, asks, start_of}
 use Rattle.runs.specs.Marks.{Moment, is_opening, is_mark, touches, touches_vertex}
 use Rattle.runs.proofs.Quiets.{quiet_quiet}
 use Rattle.runs.proofs.Flushes.{flush_played}
-use Rattle.passes.proofs.Questions.{group_asked, immediates_asked, render_asked, compute_asked, draw_asked}
+use Rattle.passes.proofs.Questions.{group_asked, immediates_asked, draw_asked}
 use Rattle.runs.proofs.Agreeing.{Agree, agree_opened, agree_device, agree_group, agree_immediates}
 use Rattle.runs.proofs.Piping.{pipe_played, agree_pipe}
 use Rattle.runs.proofs.Ready.{agree_prepared, prepared_is, Ready, ready_at, drawable_prepared, own_stepped, wiped_is_special, agree_after}
@@ -45,7 +46,7 @@ set_done (set_immediates l at ws) a d g q =
 set_done (set_render_pipeline p) a d g q =
     let w = pipe_played a.half p.layout.signature p.handle a.pipeline a.roots (IASetPrimitiveTopology p.topology ∷ []) d g refl in
     record {
-      agree = agree_pipe a.half a.pipeline a.roots d _ p.layout p.handle g w (render_asked p a.roots.layout q);
+      agree = agree_pipe a.half a.pipeline a.roots d _ p.layout p.handle g w q;
       writes = w.writes;
       vertices = w.vertices;
       vertex_writes = w.vertex_writes;
@@ -53,7 +54,7 @@ set_done (set_render_pipeline p) a d g q =
 set_done (set_compute_pipeline p) a d g q =
     let w = pipe_played a.half p.layout.signature p.handle a.pipeline a.roots [] d g refl in
     record {
-      agree = agree_pipe a.half a.pipeline a.roots d _ p.layout p.handle g w (compute_asked p a.roots.layout q);
+      agree = agree_pipe a.half a.pipeline a.roots d _ p.layout p.handle g w q;
       writes = w.writes;
       vertices = w.vertices;
       vertex_writes = w.vertex_writes;
@@ -100,28 +101,28 @@ Sound ever idle d = Unit {0}
 Sound ever recording d = Unit {0}
 Sound ever (in_pass a) d = Agree a.half a.pipeline a.roots d × Viewed ever a.vertices d
 
-pub sound_taken : (null : ℕ) (c : Call) (s : Stage) (m : Meaning) (ever ever' : List Moment) → Sound ever s m.device → offers s c ≡ true → asks null c (account_of s) ≡ None
-    → Extends touches_vertex ever ever' (touches_vertex c (account_of s)) → Sound (cond (is_opening c) [] ever') (next c s) (play (records null c (account_of s)) (start_of c m).device)
-sound_taken null begin_encoding s m ever ever' g o q x = tt
-sound_taken null end_encoding s m ever ever' g o q x = tt
-sound_taken null discard_encoding s m ever ever' g o q x = tt
-sound_taken null (opening p) s m ever ever' g o q x = (agree_opened (half_of p) (is_labelled (label_of p)) _, viewed_none _ _ (λ i. refl))
-sound_taken null (ending h) s m ever ever' g o q x = tt
-sound_taken null (quiet c) idle m ever ever' g o q x = tt
-sound_taken null (quiet c) recording m ever ever' g o q x = tt
-sound_taken null (quiet c) (in_pass a) m ever ever' g o q x =
+pub sound_taken : (own : ListState) (c : Call) (s : Stage) (m : Meaning) (ever ever' : List Moment) → Sound ever s m.device → offers s c ≡ true → asks own c (account_of s) ≡ None
+    → Extends touches_vertex ever ever' (touches_vertex c (account_of s)) → Sound (cond (is_opening c) [] ever') (next c s) (play (records own c (account_of s)) (start_of c m).device)
+sound_taken own begin_encoding s m ever ever' g o q x = tt
+sound_taken own end_encoding s m ever ever' g o q x = tt
+sound_taken own discard_encoding s m ever ever' g o q x = tt
+sound_taken own (opening p) s m ever ever' g o q x = (agree_opened (half_of p) (is_labelled (label_of p)) _, viewed_none _ _ (λ i. refl))
+sound_taken own (ending h) s m ever ever' g o q x = tt
+sound_taken own (quiet c) idle m ever ever' g o q x = tt
+sound_taken own (quiet c) recording m ever ever' g o q x = tt
+sound_taken own (quiet c) (in_pass a) m ever ever' g o q x =
     let d = m.device in
     let e = play (quiet_records c) d in
     let s = quiet_played (quiet_records c) d (quiet_quiet c) in
     (agree_device a.half a.pipeline a.roots d e (ap (λ f. f a.half) s.halves) s.pipeline g.0, viewed_quiet ever ever' a.vertices d e g.1 x s.vertices)
-sound_taken null (set c) idle m ever ever' g o q x = absurd (false≢true o)
-sound_taken null (set c) recording m ever ever' g o q x = absurd (false≢true o)
-sound_taken null (set c) (in_pass a) m ever ever' g o q x =
+sound_taken own (set c) idle m ever ever' g o q x = absurd (false≢true o)
+sound_taken own (set c) recording m ever ever' g o q x = absurd (false≢true o)
+sound_taken own (set c) (in_pass a) m ever ever' g o q x =
     let w = set_done c a m.device g.0 q in
     (w.agree, viewed_set ever ever' c a.vertices a.roots.layout m.device (play (set_records c a) m.device) g.1 x q w.vertices)
-sound_taken null (drawing c) idle m ever ever' g o q x = absurd (false≢true o)
-sound_taken null (drawing c) recording m ever ever' g o q x = absurd (false≢true o)
-sound_taken null (drawing c) (in_pass a) m ever ever' g o q x =
+sound_taken own (drawing c) idle m ever ever' g o q x = absurd (false≢true o)
+sound_taken own (drawing c) recording m ever ever' g o q x = absurd (false≢true o)
+sound_taken own (drawing c) (in_pass a) m ever ever' g o q x =
     let d = m.device in
     let e = play (flush_of c a) d in
     subst (λ z. Sound ever' (in_pass (after_draw c a)) z) (sym (draw_played c a d)) (
@@ -145,28 +146,28 @@ Since e since idle d = Unit {0}
 Since e since recording d = Unit {0}
 Since e since (in_pass a) d = Unwritten e d × Follows since a.roots × FollowsViews since a.vertices
 
-pub since_taken : (e : Device) (null : ℕ) (c : Call) (s : Stage) (m : Meaning) (ever since since' : List Moment) → Sound ever s m.device → Since e since s m.device
-    → offers s c ≡ true → asks null c (account_of s) ≡ None → is_mark c ≡ false
+pub since_taken : (e : Device) (own : ListState) (c : Call) (s : Stage) (m : Meaning) (ever since since' : List Moment) → Sound ever s m.device → Since e since s m.device
+    → offers s c ≡ true → asks own c (account_of s) ≡ None → is_mark c ≡ false
     → Extends touches since since' (touches c (account_of s)) → Extends touches_vertex since since' (touches_vertex c (account_of s))
-    → Since e since' (next c s) (play (records null c (account_of s)) (start_of c m).device)
-since_taken e null begin_encoding s m ever since since' g h o q n x y = tt
-since_taken e null end_encoding s m ever since since' g h o q n x y = tt
-since_taken e null discard_encoding s m ever since since' g h o q n x y = tt
-since_taken e null (opening p) s m ever since since' g h o q n x y = absurd (true≢false n)
-since_taken e null (ending p) s m ever since since' g h o q n x y = tt
-since_taken e null (quiet c) idle m ever since since' g h o q n x y = tt
-since_taken e null (quiet c) recording m ever since since' g h o q n x y = tt
-since_taken e null (quiet c) (in_pass a) m ever since since' g h o q n x y = (
+    → Since e since' (next c s) (play (records own c (account_of s)) (start_of c m).device)
+since_taken e own begin_encoding s m ever since since' g h o q n x y = tt
+since_taken e own end_encoding s m ever since since' g h o q n x y = tt
+since_taken e own discard_encoding s m ever since since' g h o q n x y = tt
+since_taken e own (opening p) s m ever since since' g h o q n x y = absurd (true≢false n)
+since_taken e own (ending p) s m ever since since' g h o q n x y = tt
+since_taken e own (quiet c) idle m ever since since' g h o q n x y = tt
+since_taken e own (quiet c) recording m ever since since' g h o q n x y = tt
+since_taken e own (quiet c) (in_pass a) m ever since since' g h o q n x y = (
   unwritten_then e m.device _ h.0 (still_unwritten m.device _ (quiet_played (quiet_records c) m.device (quiet_quiet c))),
   follows_quiet since since' a.roots h.1 x,
   views_quiet since since' a.vertices h.2 y,
 )
-since_taken e null (set c) idle m ever since since' g h o q n x y = absurd (false≢true o)
-since_taken e null (set c) recording m ever since since' g h o q n x y = absurd (false≢true o)
-since_taken e null (set c) (in_pass a) m ever since since' g h o q n x y =
+since_taken e own (set c) idle m ever since since' g h o q n x y = absurd (false≢true o)
+since_taken e own (set c) recording m ever since since' g h o q n x y = absurd (false≢true o)
+since_taken e own (set c) (in_pass a) m ever since since' g h o q n x y =
     let w = set_done c a m.device g.0 q in (
       unwritten_then e m.device _ h.0 (record { roots = λ i k. ap (λ f. f k) (w.writes i); vertices = λ i. ap (λ f. f i) w.vertex_writes }),
       follows_set since since' a.roots h.1 c x,
       views_set since since' c a.vertices h.2 y,
     )
-since_taken e null (drawing c) s m ever since since' g h o q n x y = absurd (true≢false n)
+since_taken e own (drawing c) s m ever since since' g h o q n x y = absurd (true≢false n)

@@ -14,11 +14,11 @@ use Rattle.layouts.specs.Layouts.{owner_in, group_in, Owns}
 use Rattle.layouts.proofs.Wholeness.{whole}
 use Rattle.passes.specs.declared.element.RootElement.{RootElement}
 use Rattle.passes.specs.declared.element.RootElement.TheVariants.{Immediates, SpecialConstants, DynamicUniformBuffer}
-use Rattle.passes.specs.Account.{Bound, Pipeline, opened, filled, filled_from, special_slot, placed, zeros, renewed, is_current, switched, overwritten, with_immediates, group_elements, current_special, fits_owner}
+use Rattle.passes.specs.Account.{Bound, Pipeline, opened, filled, filled_from, special_slot, placed, zeros, renewed, is_current, switched, overwritten, with_immediates, group_elements, current_special, fits_owner, is_special_element}
 use Rattle.passes.specs.Calls.{grouped, supplied, asks_layout}
 use Rattle.passes.specs.Flush.{element_value, value_at, Holds}
 use Rattle.passes.proofs.Questions.{current_layout}
-use Rattle.passes.proofs.Fitting.{owner_special, owner_immediates, not_special, group_owned, is_special_element, may_be_special, special_may, value_by, value_else}
+use Rattle.passes.proofs.Fitting.{owner_special, owner_immediates, not_special, group_owned, may_be_special, special_may, value_by, value_else}
 
 -- a slot of the layout l that is not touched: the pipeline is of the layout's signature, and the device holds the slot's value, which fits its owner
 pub record Held (h : Half) (p : Option Pipeline) (b : Bound) (d : Device) (l : PipelineLayout) (k : ℕ) : Type 0 where
@@ -30,7 +30,7 @@ pub record Held (h : Half) (p : Option Pipeline) (b : Bound) (d : Device) (l : P
 
 pub record Agree (h : Half) (p : Option Pipeline) (b : Bound) (d : Device) : Type 0 where
   -- the pipeline and its signature are on the device
-  pub piped : (x : Pipeline) → p ≡ Some x → (d.pipeline ≡ x.handle) × ((d.halves h).signature ≡ x.signature)
+  pub piped : (x : Pipeline) → p ≡ Some x → (d.pipeline ≡ x.handle) × ((d.halves h).signature ≡ x.signature) × (0 < x.handle)
   -- only slots of the current layout are touched
   pub within : (k : ℕ) → b.touched k ≡ true → (l : PipelineLayout) × (b.layout ≡ Some l) × (k < l.total_root_elements)
   pub held : (l : PipelineLayout) → b.layout ≡ Some l → (k : ℕ) → k < l.total_root_elements → b.touched k ≡ false → Held h p b d l k
@@ -63,7 +63,7 @@ agree_opened h labelled d = record {
 -- a device that is the same for the half
 pub agree_device : (h : Half) (p : Option Pipeline) (b : Bound) (d e : Device) → e.halves h ≡ d.halves h → e.pipeline ≡ d.pipeline → Agree h p b d → Agree h p b e
 agree_device h p b d e same pipe g = record {
-  piped = λ x q. let y = g.piped x q in (pipe ∙ y.0, ap (λ (r : Roots). r.signature) same ∙ y.1);
+  piped = λ x q. let y = g.piped x q in (pipe ∙ y.0, ap (λ (r : Roots). r.signature) same ∙ y.1, y.2);
   within = g.within;
   held = λ l q k lt f.
       let y = g.held l q k lt f in
@@ -73,7 +73,7 @@ agree_device h p b d e same pipe g = record {
 
 -- a switch touches every slot of its layout, so that nothing need be held
 pub agree_renewed : (h : Half) (p : Option Pipeline) (l : PipelineLayout) (b : Bound) (d : Device)
-    → ((x : Pipeline) → p ≡ Some x → (d.pipeline ≡ x.handle) × ((d.halves h).signature ≡ x.signature)) → Agree h p (renewed l b) d
+    → ((x : Pipeline) → p ≡ Some x → (d.pipeline ≡ x.handle) × ((d.halves h).signature ≡ x.signature) × (0 < x.handle)) → Agree h p (renewed l b) d
 agree_renewed h p l b d piped = record {
   piped = piped;
   within = λ k e. (l, refl, ltb-true k l.total_root_elements e);

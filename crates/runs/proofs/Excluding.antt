@@ -62,12 +62,12 @@ at s run t start r past m rest c cut is ok =
     let w = took m.before m.call m.answer m.after parts.2.1 (ap is_taken ok) in
     let a = account_at m in
     let d = device_before m in
-    let null = m.before.null in
+    let own = m.before.own in
     let sound = in_pass_lem c ever m.before.stage d (subst (λ z. offers m.before.stage z ≡ true) is w.offered) g in
-    let dev = w.device ∙ ap (λ z. play (records null z a) (start_of z m.before.meaning).device) is ∙ draw_played c a d in (
+    let dev = w.device ∙ ap (λ z. play (records own z a) (start_of z m.before.meaning).device) is ∙ draw_played c a d in (
       ever,
       record {
-        clear = subst (λ z. asks null z a ≡ None) is w.clear;
+        clear = subst (λ z. asks own z a ≡ None) is w.clear;
         agree = sound.0;
         viewed = sound.1;
         behind = subst (λ z. Unwritten (play (flush_of c a) d) z) (sym dev) (own_unwritten c a.roots.layout (play (flush_of c a) d));

@@ -8,6 +8,7 @@ use Rattle.device.proofs.NoWrites.{Unwritten, still_unwritten}
 use Rattle.passes.specs.Account.{Account}
 use Rattle.passes.specs.Calls.{DrawCall, own_constants, prepared, own_command, draw_records, asks_draw, draw_touches}
 use Rattle.encoder.specs.Opening.{opening_records}
+use Rattle.encoder.specs.declared.state.ListState.{ListState}
 use Rattle.encoder.specs.Scenes.{Call, begin_encoding, end_encoding, discard_encoding, opening, ending, quiet, set, drawing, Stage, idle, recording, in_pass, account_of, pass_draws, offers, records, asks, start_of, taken, is_taken, Scene, Does}
 use Rattle.encoder.proofs.Answered.{taken_is, Took, took}
 use Rattle.runs.specs.Marks.{Moment, Run, device_before, device_after, account_at, is_opening, is_mark, Mark, NoMark, but_last, found_by, found, touches, touches_vertex, since_opening, Stands, EveryRunKeeps}
@@ -15,7 +16,7 @@ use Rattle.runs.proofs.Quiets.{opening_quiet}
 use Rattle.runs.proofs.Flushes.{flush_played}
 use Rattle.passes.proofs.Questions.{draw_asked}
 use Rattle.runs.proofs.Agreeing.{Agree, same_total}
-use Rattle.runs.proofs.Ready.{agree_prepared, known_prepared, own_latest}
+use Rattle.runs.proofs.Ready.{agree_prepared, known_prepared, kind_prepared, own_latest}
 use Rattle.runs.proofs.Following.{Extends, extends_taken, extends_refused, Follows, follows_none, follows_quiet, follows_prepared}
 use Rattle.runs.proofs.Viewing.{FollowsViews, views_none, views_quiet, Viewed, viewed_quiet, viewed_flushed}
 use Rattle.runs.proofs.Accepted.{flush_of, draw_played, draw_ready, draw_current, Sound, sound_taken, own_unwritten, Since, since_taken}
@@ -49,7 +50,7 @@ sound_step ever m d g =
     let both : opens m ≡ is_opening m.call = ap (λ b. b && is_opening m.call) y in
     subst (λ b. Sound (cond b [] ever') m.after.stage (device_after m)) (sym both)
     (at_scene (Sound (cond (is_opening m.call) [] ever')) m.after _ _ w.stage w.device
-    (sound_taken m.before.null m.call m.before.stage m.before.meaning ever ever' g w.offered w.clear x)))
+    (sound_taken m.before.own m.call m.before.stage m.before.meaning ever ever' g w.offered w.clear x)))
     (λ y.
     let none : opens m ≡ false = and_left (is_taken m.answer) (is_opening m.call) y in
     subst (λ b. Sound (cond b [] ever') m.after.stage (device_after m)) (sym none)
@@ -86,7 +87,7 @@ since_step e ever since m d nm g h =
     let ok = taken_is m.answer y in
     let plain : is_mark m.call ≡ false = ⊎_elim (λ z. absurd (nm (record { accepted = ok; marks = z }))) (λ z. z) (cases_Bool (is_mark m.call)) in
     at_scene (Since e since') m.after _ _ w.stage w.device
-    (since_taken e m.before.null m.call m.before.stage m.before.meaning ever since since' g h w.offered w.clear plain
+    (since_taken e m.before.own m.call m.before.stage m.before.meaning ever since since' g h w.offered w.clear plain
     (extends_taken touches since m ok) (extends_taken touches_vertex since m ok)))
     (λ y. at_same (Since e since') m.before m.after (d.refused y)
     (since_refused e since since' m.before.stage (device_before m) (extends_refused touches since m y) (extends_refused touches_vertex since m y) h))
@@ -118,19 +119,19 @@ but_last_one [] c = refl
 but_last_one (a ∷ []) c = refl
 but_last_one (a ∷ b ∷ cs) c = ap (λ r. a ∷ r) (but_last_one (b ∷ cs) c)
 
-pub draw_found : (null : ℕ) (c : DrawCall) (a : Account) (d : Device) → found_by (drawing c) (records null (drawing c) a) d ≡ play (flush_of c a) d
-draw_found null c a d = ap (λ z. play z d) (but_last_one (flush_of c a) (own_command c a.roots.layout))
+pub draw_found : (own : ListState) (c : DrawCall) (a : Account) (d : Device) → found_by (drawing c) (records own (drawing c) a) d ≡ play (flush_of c a) d
+draw_found own c a d = ap (λ z. play z d) (but_last_one (flush_of c a) (own_command c a.roots.layout))
 
 -- an accepted mark finds a device, and from then on the account is followed
 mark_found : (c : Call) (s t : Scene) → Took s c t → is_mark c ≡ true
-    → Since (found_by c (records s.null c (account_of s.stage)) s.meaning.device) [] t.stage t.meaning.device
+    → Since (found_by c (records s.own c (account_of s.stage)) s.meaning.device) [] t.stage t.meaning.device
 mark_found begin_encoding s t w k = absurd (false≢true k)
 mark_found end_encoding s t w k = absurd (false≢true k)
 mark_found discard_encoding s t w k = absurd (false≢true k)
 mark_found (opening o) s t w k =
     let d = s.meaning.device in
     at_scene (Since d []) t _ _ w.stage w.device
-    (still_unwritten d _ (quiet_played (opening_records s.null o) d (opening_quiet s.null o)), follows_none _ (λ _. refl), views_none _ (λ _. refl))
+    (still_unwritten d _ (quiet_played (opening_records s.own.null_target o) d (opening_quiet s.own.null_target o)), follows_none _ (λ _. refl), views_none _ (λ _. refl))
 mark_found (ending h) s t w k = absurd (false≢true k)
 mark_found (quiet q) s t w k = absurd (false≢true k)
 mark_found (set c) s t w k = absurd (false≢true k)
@@ -138,7 +139,7 @@ mark_found (drawing c) s t w k =
     let a = account_of s.stage in
     let d = s.meaning.device in
     let e = play (flush_of c a) d in
-    subst (λ z. Since z [] t.stage t.meaning.device) (sym (draw_found s.null c a d))
+    subst (λ z. Since z [] t.stage t.meaning.device) (sym (draw_found s.own c a d))
     (at_scene (Since e []) t _ _ w.stage (w.device ∙ draw_played c a d)
     (own_unwritten c a.roots.layout e, follows_none _ (λ _. refl), views_none _ (λ _. refl)))
 
@@ -179,11 +180,13 @@ stands_at c later ever e between since k q dev x y =
       piped = r.set;
       current = now;
       on_device = r.on_device;
+      handle = r.handle;
       signed = r.signed;
       same = r.same;
       recorded = own;
       latest = ap (λ (z : Device). z.latest) own ∙ own_latest c (Some r.layout) d';
       holds = r.holds;
+      of_kind = kind_prepared a.half (own_constants c) a.pipeline a.roots (draw_asked c a q) r.layout now;
       known = known_prepared a.half (own_constants c) a.pipeline a.roots (draw_asked c a q) r.layout now;
       views = viewed_flushed ever a.half b a.vertices d d' k.viewed f;
       written = λ j lt t. omega (arith, r.rises j (roots.all r.layout r.current j lt t), k.unwritten.roots a.half j);
@@ -212,15 +215,15 @@ draw_stands : (c : DrawCall) (later : Moment) (ever : List Moment) (e : Device) 
 draw_stands c later ever e between is ok does g h =
     let a = account_at later in
     let d = device_before later in
-    let null = later.before.null in
+    let own = later.before.own in
     let since = between ++ (later ∷ []) in
     let w = took later.before later.call later.answer later.after does (ap is_taken ok) in
     let offered = subst (λ z. offers later.before.stage z ≡ true) is w.offered in
-    let clear = subst (λ z. asks null z a ≡ None) is w.clear in
-    let dev = w.device ∙ ap (λ z. play (records null z a) (start_of z later.before.meaning).device) is in
+    let clear = subst (λ z. asks own z a ≡ None) is w.clear in
+    let dev = w.device ∙ ap (λ z. play (records own z a) (start_of z later.before.meaning).device) is in
     let x = subst (λ z. Extends touches between since (touches z a)) is (extends_taken touches between later ok) in
     let y = subst (λ z. Extends touches_vertex between since (touches_vertex z a)) is (extends_taken touches_vertex between later ok) in
-    subst (λ z. Stands c later since ever e z) (sym (ap (λ z. found_by z (records null z a) d) is ∙ draw_found null c a d))
+    subst (λ z. Stands c later since ever e z) (sym (ap (λ z. found_by z (records own z a) d) is ∙ draw_found own c a d))
     (stands_at c later ever e between since (in_pass_lem c ever e between later.before.stage d offered g h) clear dev x y)
 
 -- whatever calls are made: each draw stands

@@ -9,6 +9,7 @@ pub mod Viewing
 pub mod Accepted
 pub mod Law
 pub mod Listing
+pub mod Showing
 pub mod Excluding
 pub mod Away
 pub mod Driving

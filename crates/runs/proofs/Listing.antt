@@ -4,9 +4,10 @@ use Rattle.command_list.specs.Commands.{Command}
 use Rattle.device.specs.Meaning.{Meaning, shown_more, cleared}
 use Rattle.encoder.specs.Scenes.{Call, begin_encoding, end_encoding, discard_encoding, opening, ending, quiet, set, drawing, records, start_of, is_taken, Scene, Does}
 use Rattle.runs.specs.Marks.{Moment, Run, account_at}
-use Rattle.runs.specs.Encoded.{left_by, listed_by, recorded}
+use Rattle.runs.specs.Shown.{left_by}
+use Rattle.runs.specs.Encoded.{listed_by, recorded}
 
-starts : (c : Call) (m : Meaning) (cs : List Command) → m.shown ≡ Some cs → (start_of c m).shown ≡ Some (left_by c cs)
+pub starts : (c : Call) (m : Meaning) (cs : List Command) → m.shown ≡ Some cs → (start_of c m).shown ≡ Some (left_by c cs)
 starts begin_encoding m cs e = ap cleared e
 starts end_encoding m cs e = e
 starts discard_encoding m cs e = e
@@ -20,7 +21,7 @@ shown_by : (m : Moment) (cs : List Command) → Does m.before m.call m.answer m.
 shown_by m cs d e = by (is_taken m.answer) refl
   where
     more : List Command
-    more = records m.before.null m.call (account_at m)
+    more = records m.before.own m.call (account_at m)
 
     by : (b : Bool) → is_taken m.answer ≡ b → m.after.meaning.shown ≡ Some (cond b (left_by m.call cs ++ more) cs)
     by true t = (d.recorded t).shown ∙ ap (shown_more more) (starts m.call m.before.meaning cs e)

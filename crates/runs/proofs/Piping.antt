@@ -1,6 +1,6 @@
 -- What a pipeline call records, and that bound elements and the device agree behind it.
-use Rattle.std.proofs.Common.{◌≡◌, ℕ, true, ◌&&◌, List, ◌∷◌, ◌++◌, Some, None, Option, sym, refl, ap, ◌∙◌, subst}
-use Rattle.std.proofs.lemmas.Bool.{false≢true, eqb-true, and_parts, cond_both}
+use Rattle.std.proofs.Common.{◌≡◌, ◌<◌, ℕ, true, ◌&&◌, List, ◌∷◌, ◌++◌, Some, None, Option, sym, refl, ap, ◌∙◌, subst}
+use Rattle.std.proofs.lemmas.Bool.{false≢true, eqb-true, ltb-true, and_parts, cond_both}
 use Rattle.std.proofs.lemmas.Option.{same_Some}
 use Rattle.command_list.specs.declared.command.Half.{Half}
 use Rattle.command_list.specs.Commands.{Command, SetPipelineState}
@@ -9,7 +9,9 @@ use Rattle.device.proofs.Quiets.{are_quiet}
 use Rattle.device.proofs.Pipelines.{Piped, piped_by}
 use Rattle.layouts.specs.declared.layout.PipelineLayout.{PipelineLayout}
 use Rattle.passes.specs.Account.{Bound, Pipeline, is_current, renewed, switched}
-use Rattle.passes.specs.Calls.{is_signed, signature_first, asks_layout}
+use Rattle.passes.specs.Calls.{is_signed, signature_first, is_handle, asks_layout, asks_pipeline}
+use Rattle.command_list.specs.Refusals.{fault, unless}
+use Rattle.command_list.proofs.Refusing.{before_none, unless_none}
 use Rattle.passes.specs.Flush.{value_at, Holds}
 use Rattle.passes.proofs.Questions.{current_layout}
 use Rattle.runs.proofs.Agreeing.{Agree, agree_renewed, same_signature}
@@ -26,12 +28,15 @@ pipe_played h s handle p b rest d g q =
     (λ e. is_signed_lem h s p b d g (and_parts (is_current s b.layout) (is_signed s p) e).1)
 
 pub agree_pipe : (h : Half) (p : Option Pipeline) (b : Bound) (d e : Device) (l : PipelineLayout) (handle : ℕ) → Agree h p b d → Piped h l.signature handle d e
-    → asks_layout l b.layout ≡ None → Agree h (Some (record { handle = handle; signature = l.signature })) (switched l b) e
-agree_pipe h p b d e l handle g w q =
+    → asks_pipeline handle l b.layout ≡ None → Agree h (Some (record { handle = handle; signature = l.signature })) (switched l b) e
+agree_pipe h p b d e l handle g w asked =
+    let both = before_none (unless (is_handle handle) (fault 3 0)) (asks_layout l b.layout) asked in
+    let q = both.1 in
+    let some : 0 < handle = ltb-true 0 handle (unless_none (is_handle handle) (fault 3 0) both.0) in
     let x : Pipeline = record { handle = handle; signature = l.signature } in
-    let piped : (y : Pipeline) → Some x ≡ Some y → (e.pipeline ≡ y.handle) × ((e.halves h).signature ≡ y.signature) = λ y s.
+    let piped : (y : Pipeline) → Some x ≡ Some y → (e.pipeline ≡ y.handle) × ((e.halves h).signature ≡ y.signature) × (0 < y.handle) = λ y s.
     let same = same_Some x y s in
-    (w.on ∙ ap (λ (z : Pipeline). z.handle) same, w.signature ∙ ap (λ (z : Pipeline). z.signature) same) in
+    (w.on ∙ ap (λ (z : Pipeline). z.handle) same, w.signature ∙ ap (λ (z : Pipeline). z.signature) same, subst (λ (z : Pipeline). 0 < z.handle) same some) in
     cond_both (is_current l.signature b.layout) b (renewed l b) (λ c. Agree h (Some x) c e)
     (λ cur.
     let now = current_layout l b.layout q cur in

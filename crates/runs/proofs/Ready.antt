@@ -14,14 +14,16 @@ use Rattle.layouts.proofs.Wholeness.{whole}
 use Rattle.bindings.specs.declared.constants.SpecialConstants.{SpecialConstants as Constants}
 use Rattle.passes.specs.declared.element.RootElement.{RootElement}
 use Rattle.passes.specs.declared.element.RootElement.TheVariants.{Empty, SpecialConstants}
-use Rattle.passes.specs.Account.{Bound, Views, Pipeline, filled, special_slot, placed, is_constants, constants_at, current_special, own_slot, emptied, untouched, fits_owner}
+use Rattle.passes.specs.Account.{Bound, Views, Pipeline, filled, special_slot, placed, is_constants, constants_at, current_special, own_slot, emptied, untouched, fits_owner, is_special_element, is_of_kind}
 use Rattle.passes.specs.Calls.{DrawCall, draw, draw_indirect, dispatch, dispatch_indirect, own_constants, constants_by, by_own, prepared_by, wiped_slot, own_command}
 use Rattle.passes.specs.Flush.{nothing, element_value, value_at, Holds}
 use Rattle.encoder.specs.Scenes.{pass_draws}
 use Rattle.passes.proofs.Fitting.{solid}
 use Rattle.runs.proofs.Flushes.{Flushed}
 use Rattle.passes.proofs.Questions.{Drawable}
-use Rattle.passes.proofs.Fitting.{special_owner, own_special, current_special_lem, is_special_element, may_be_special, constants_special, value_by, fit_solid, solid_known}
+use Rattle.layouts.specs.declared.info.Owner.{Owner}
+use Rattle.layouts.specs.declared.info.Owner.TheVariants.{Table, Uniform, Immediates as ImmediatesOwner, Special}
+use Rattle.passes.proofs.Fitting.{special_owner, owner_special, own_special, current_special_lem, may_be_special, constants_special, value_by, fit_solid, solid_known}
 use Rattle.runs.proofs.Agreeing.{Agree, agree_slot, same_total}
 
 -- ---- the special constants of a draw
@@ -90,6 +92,7 @@ pub record Ready (h : Half) (p : Option Pipeline) (b : Bound) (d e : Device) : T
   pub current : b.layout ≡ Some layout
   pub same : pipeline.signature ≡ layout.signature
   pub on_device : e.pipeline ≡ pipeline.handle
+  pub handle : 0 < pipeline.handle
   pub signed : (e.halves h).signature ≡ pipeline.signature
   pub holds : (k : ℕ) → k < layout.total_root_elements → Holds (value_at h b k) ((e.halves h).slots k)
   pub fit : (k : ℕ) → k < layout.total_root_elements → fits_owner (owner_in layout k) (b.elements k) ≡ true
@@ -112,6 +115,7 @@ ready_at h p b v d e g r f =
       current = r.current;
       same = r.same;
       on_device = f.pipeline ∙ piped.0;
+      handle = piped.2;
       signed = f.signature ∙ piped.1;
       holds = λ k lt. ⊎_elim
           (λ on. (f.put k (omega arith) on (firm k lt on)).holds)
@@ -141,6 +145,22 @@ known_prepared h o p b r l is =
     subst (λ (m : PipelineLayout). (k : ℕ) → k < m.total_root_elements → (wiped_slot o (Some m) ≡ Some k → ⊥) → value_at h (prepared_by o b) k ≡ nothing → ⊥)
     (same_Some r.layout l (sym r.current ∙ is))
     (λ k lt n. solid_known (value_at h (prepared_by o b) k) (fit_solid r.layout h (prepared_by o b) k (w.layout ∙ r.current) lt (w.fit k (r.fit k lt)) (λ s. w.constants k s n)))
+
+-- and its element is of its owner's kind
+pub kind_prepared : (h : Half) (o : Option Constants) (p : Option Pipeline) (b : Bound) → Drawable p b.layout b.elements → (l : PipelineLayout) → b.layout ≡ Some l
+    → (k : ℕ) → k < l.total_root_elements → (wiped_slot o (Some l) ≡ Some k → ⊥) → is_of_kind (owner_in l k) ((prepared_by o b).elements k) ≡ true
+kind_prepared h o p b r l is =
+    let w = prepared_is r.layout o b r.current in
+    subst (λ (m : PipelineLayout). (k : ℕ) → k < m.total_root_elements → (wiped_slot o (Some m) ≡ Some k → ⊥) → is_of_kind (owner_in m k) ((prepared_by o b).elements k) ≡ true)
+    (same_Some r.layout l (sym r.current ∙ is))
+    (λ k lt n. by (owner_in r.layout k) _ (λ e. w.constants k (owner_special r.layout k e) n) (w.fit k (r.fit k lt)))
+  where
+    by : (q : Option Owner) (x : RootElement) → (q ≡ Some Special → is_special_element x ≡ true) → fits_owner q x ≡ true → is_of_kind q x ≡ true
+    by None x s f = f
+    by (Some Table) x s f = f
+    by (Some Uniform) x s f = f
+    by (Some ImmediatesOwner) x s f = f
+    by (Some Special) x s f = s refl
 
 -- ---- behind its own record
 
@@ -196,6 +216,7 @@ agree_after h p b d e f w r sp m = record {
       let same = same_Some r.pipeline x (sym r.set ∙ q) in (
         m.pipeline ∙ r.on_device ∙ ap (λ (z : Pipeline). z.handle) same,
         ap (λ (z : Roots). z.signature) m.here ∙ wiped_signature w (e.halves h) ∙ r.signed ∙ ap (λ (z : Pipeline). z.signature) same,
+        subst (λ (z : Pipeline). 0 < z.handle) same r.handle,
       );
   within = λ k on. absurd (false≢true on);
   held = λ l is k lt off.

@@ -1,6 +1,6 @@
 -- The worked plots come true: each by computing, for layouts whose parts are written out.
-use Rattle.std.proofs.Common.{◌≡◌, ℕ, Bool, true, false, cond, ◌&&◌, eqb, leb, List, [], ◌∷◌, Some, None, Option, sym, refl, ap, ◌∙◌, subst, ◌++◌, inl, negsuc, arith}
-use Rattle.std.proofs.lemmas.Bool.{true≢false, false≢true}
+use Rattle.std.proofs.Common.{◌≡◌, ◌≤◌, ℕ, Bool, true, false, cond, ◌&&◌, eqb, leb, List, [], ◌∷◌, Some, None, Option, sym, refl, ap, ◌∙◌, subst, ◌++◌, inl, negsuc, arith}
+use Rattle.std.proofs.lemmas.Bool.{true≢false, false≢true, leb-true}
 use Rattle.device.specs.Meaning.{sizes}
 use Rattle.std.specs.Option.{option_eq}
 use Rattle.std.specs.Cmp.Lexicographic.{pointwise}
@@ -14,15 +14,16 @@ use Rattle.command_list.specs.Commands.{Command, BeginEvent, SetDescriptorHeaps}
 use Rattle.std.specs.Str.{chars}
 use Rattle.labels.specs.Unicode.{utf8s, utf16s}
 use Rattle.labels.proofs.Texts.{encoded_once}
-use Rattle.encoder.specs.Opening.{are_scalars, same_numbers}
+use Rattle.labels.specs.Utf8.{are_scalars, same_numbers}
 use Rattle.layouts.specs.declared.info.PipelineLayoutSpecialConstants.{PipelineLayoutSpecialConstants}
 use Rattle.passes.specs.declared.element.RootElement.TheVariants.{SpecialConstants}
 use Rattle.passes.specs.Account.{unfit}
 use Rattle.device.specs.Writes.{gathered}
-use Rattle.encoder.specs.Scenes.{Call, Scene, is_taken, account_of, records, next, start_of, judged, verdict, Does}
+use Rattle.encoder.specs.Scenes.{Call, Scene, is_taken, account_of, offers, asks, not_offered, records, next, start_of, judged, verdict, Does}
 use Rattle.encoder.specs.Phases.{scene}
-use Rattle.runs.specs.Worked.{come_to, curves, labelled, spent, behind, behind_all, outcomes, plots, Come_true, empty, IsPlotted, WorkedPlots}
-use Rattle.command_list.specs.Refusals.{fault, unless}
+use Rattle.runs.specs.Worked.{beside, come_to, curves, labelled, spent, behind, behind_all, outcomes, plots, Come_true, empty, IsPlotted, WorkedPlots}
+use Rattle.command_list.specs.Refusals.{Why, fault, unless}
+use Rattle.command_list.specs.Bits.{bit}
 
 -- the layout with its parts written out
 abbrev pub groups_of : List (Option BindGroupInfo)
@@ -64,28 +65,46 @@ module _ (own : Bool) (k : PipelineLayout) (is : IsPlotted own k) where
       same true = refl
       same false = refl
 
+-- a call that is taken fits the space
+fits_taken : (s : Scene) (c : Call) → is_taken (verdict s c) ≡ true → sizes (records s.own c (account_of s.stage)) ≤ (start_of c s.meaning).space
+unfolding verdict
+fits_taken s c e = leb-true _ _ (by (offers s.stage c) (asks s.own c (account_of s.stage)) _ e)
+  where
+    by : (o : Bool) (q : Option Why) (f : Bool) → is_taken (cond o (judged q f) not_offered) ≡ true → f ≡ true
+    by true None true e = refl
+    by true None false e = absurd (false≢true e)
+    by true (Some w) f e = absurd (false≢true e)
+    by false q f e = absurd (false≢true e)
+
 -- what a call comes to is a step of a run
 does_behind : (s : Scene) (c : Call) → Does s c (verdict s c) (behind s c)
 does_behind s c = by (is_taken (verdict s c)) refl
   where
     rs : List Command
-    rs = records s.null c (account_of s.stage)
+    rs = records s.own c (account_of s.stage)
 
     then' : Scene
-    then' = scene (next c s.stage) s.null (spent rs (start_of c s.meaning))
+    then' = scene (next c s.stage) s.own (spent rs (start_of c s.meaning))
 
     by : (b : Bool) → is_taken (verdict s c) ≡ b → Does s c (verdict s c) (behind s c)
     by true e = subst (λ t. Does s c (verdict s c) t) (sym (ap (λ b. cond b then' s) e)) (record {
       answer = refl;
       refused = λ q. absurd (true≢false (sym e ∙ q));
-      null = refl;
+      own = refl;
       stage = λ _. refl;
-      recorded = λ _. record { device = refl; least = omega arith; most = omega arith; made = refl; shown = refl };
+      recorded = λ _. record {
+        device = refl;
+        least = omega arith;
+        most = omega arith;
+        made = refl;
+        shown = refl;
+        exact = λ bs q. omega (arith, fits_taken s c e);
+      };
     })
     by false e = subst (λ t. Does s c (verdict s c) t) (sym (ap (λ b. cond b then' s) e)) (record {
       answer = refl;
       refused = λ _. refl;
-      null = refl;
+      own = refl;
       stage = λ q. absurd (false≢true (sym e ∙ q));
       recorded = λ q. absurd (false≢true (sym e ∙ q));
     })
@@ -94,7 +113,7 @@ does_behind s c = by (is_taken (verdict s c)) refl
 label_chars : chars (0xC3 ∷ 0xA9 ∷ []) ≡ (0xE9 ∷ [])
 label_chars = sym (encoded_once (0xC3 ∷ 0xA9 ∷ []) (0xE9 ∷ []) ((inl (omega arith), tt), refl))
 
-label_comes : outcomes (scene labelled.stage 0 (empty labelled.space)) labelled.calls ≡ labelled.outcome
+label_comes : outcomes (scene labelled.stage beside (empty labelled.space)) labelled.calls ≡ labelled.outcome
 unfolding verdict
 label_comes = λ i.
     let cs = label_chars i in
@@ -102,14 +121,14 @@ label_comes = λ i.
     come_to (judged (unless (are_scalars cs && same_numbers (utf8s cs) (0xC3 ∷ 0xA9 ∷ [])) (fault 2 0)) (leb (sizes rs) 1000)) rs ∷ []
 
 abbrev Minus_one : PipelineLayout → Type 0
-Minus_one k = (account_of (behind_all (scene (curves k).stage 0 (empty (curves k).space)) (curves k).calls).stage).roots.elements 2 ≡ SpecialConstants (record { first_vertex_or_x = negsuc 0; first_instance_or_y = 0; unused_or_z = 0 })
+Minus_one k = (account_of (behind_all (scene (curves k).stage beside (empty (curves k).space)) (curves k).calls).stage).roots.elements 2 ≡ SpecialConstants (record { first_vertex_or_x = negsuc 0; first_instance_or_y = 0; unused_or_z = 0 })
 
 minus_one_is : (k : PipelineLayout) (p : IsPlotted false k) → Minus_one (written false k p)
-unfolding verdict unfit gathered
+unfolding verdict unfit gathered bit
 minus_one_is k p = refl
 
 pub worked_plots : WorkedPlots
-unfolding verdict unfit gathered
+unfolding verdict unfit gathered bit
 worked_plots = record {
   does = does_behind;
   plots_are = λ k own p q. subst (λ x. Come_true (plots x own)) (sym (is_written false k p)) (subst (λ x. Come_true (plots (written false k p) x)) (sym (is_written true own q)) (come_true k own p q));

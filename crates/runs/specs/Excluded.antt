@@ -12,8 +12,8 @@ NoSilentDraw = (s t : Scene) (c : DrawCall) → Does s (drawing c) taken t → t
 -- none refuses a call that it offers, of which every question says yes and whose records fit the space
 abbrev pub NoNeedlessRefusal : Type 0
 NoNeedlessRefusal =
-    (s t : Scene) (c : Call) (a : Answer) → Does s c a t → offers s.stage c ≡ true → asks s.null c (account_of s.stage) ≡ None
-    → sizes (records s.null c (account_of s.stage)) ≤ (start_of c s.meaning).space → is_taken a ≢ false
+    (s t : Scene) (c : Call) (a : Answer) → Does s c a t → offers s.stage c ≡ true → asks s.own c (account_of s.stage) ≡ None
+    → sizes (records s.own c (account_of s.stage)) ≤ (start_of c s.meaning).space → is_taken a ≢ false
 
 -- of each accepted draw of each run
 abbrev pub OfDraws : (DrawCall → Moment → Type 0) → Type 0

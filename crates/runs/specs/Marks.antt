@@ -1,14 +1,10 @@
 -- Whole runs of an encoder, and what holds between the marks of each pass.
-use Rattle.std.specs.Prelude.{◌≡◌, ℕ, ◌<◌, Bool, true, false, cond, ◌&&◌, ◌⊎◌, List, [], ◌∷◌, ◌++◌, Some, Option, ◌≢◌}
+use Rattle.std.specs.Prelude.{◌≡◌, ℕ, ◌<◌, Bool, true, false, cond, ◌&&◌, ◌⊎◌, List, [], ◌∷◌, ◌++◌, Some, ◌≢◌}
 use Rattle.command_list.specs.Commands.{Command}
 use Rattle.device.specs.Devices.{Device, other, step, play}
 use Rattle.layouts.specs.declared.layout.PipelineLayout.{PipelineLayout}
-use Rattle.layouts.specs.declared.info.Owner.{Owner}
-use Rattle.layouts.specs.declared.info.Owner.TheVariants.{Special}
 use Rattle.layouts.specs.Layouts.{owner_in}
-use Rattle.passes.specs.declared.element.RootElement.{RootElement}
-use Rattle.passes.specs.declared.element.RootElement.TheVariants.{SpecialConstants}
-use Rattle.passes.specs.Account.{Pipeline, Account, fits_owner}
+use Rattle.passes.specs.Account.{Pipeline, Account, is_of_kind}
 use Rattle.passes.specs.Flush.{nothing, value_at, Holds}
 use Rattle.passes.specs.Calls.{DrawCall, prepared, own_constants, wiped_slot, own_command, set_touches, set_touches_vertex, draw_touches}
 use Rattle.encoder.specs.Scenes.{Call, begin_encoding, end_encoding, discard_encoding, opening, ending, quiet, set, drawing, idle, account_of, records, Answer, taken, is_taken, Scene, Does}
@@ -98,15 +94,6 @@ TouchedVertex ms i = Some_touched touches_vertex ms i
 abbrev pub since_opening : List Moment → List Moment → List Moment
 since_opening since [] = since
 since_opening since (m ∷ ms) = cond (is_taken m.answer && is_opening m.call) (since_opening [] ms) (since_opening (since ++ (m ∷ [])) ms)
-
-abbrev pub is_special_element : RootElement → Bool
-is_special_element (SpecialConstants s) = true
-is_special_element _ = false
-
--- an element of its owner's kind: at the special slot, special constants
-abbrev pub is_of_kind : Option Owner → RootElement → Bool
-is_of_kind (Some Special) e = is_special_element e
-is_of_kind o e = fits_owner o e
 
 -- What holds of an accepted draw that finds the device d, where the mark before it found e. The calls since that
 -- mark, up to the draw, are since; those of its pass are ever.

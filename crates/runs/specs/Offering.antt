@@ -9,7 +9,7 @@ use Rattle.passes.specs.Calls as passes
 use Rattle.encoder.specs.Opening as opening
 use Rattle.encoder.specs.Scenes as scenes
 use Rattle.encoder.specs.Scenes.{Scene}
-use Rattle.encoder.specs.Phases.{idle_scene, list_scene, pass_scene}
+use Rattle.encoder.specs.Phases.{idle_scene, list_scene, render_scene, compute_scene}
 use Rattle.runs.specs.declared.call.Call.{Call}
 use Rattle.runs.specs.declared.call.Call.TheVariants as call
 use Rattle.runs.specs.declared.call.Answer.{Answer}
@@ -47,7 +47,7 @@ told answer.NotOffered = scenes.not_offered
 
 -- the scene of an encoder in whichever phase it is
 abbrev pub phase_scene : {X : Type 0} → (X → Meaning) → Phase X → Scene
-phase_scene m (phase.Idle p) = idle_scene p.null_target (m p.recorder)
-phase_scene m (phase.Recording p) = list_scene p.null_target (m p.recorder)
-phase_scene m (phase.Render p) = pass_scene p.pass p.null_target (m p.recorder)
-phase_scene m (phase.Compute p) = pass_scene p.pass p.null_target (m p.recorder)
+phase_scene m (phase.Idle p) = idle_scene m p
+phase_scene m (phase.Recording p) = list_scene m p
+phase_scene m (phase.Render p) = render_scene m p
+phase_scene m (phase.Compute p) = compute_scene m p

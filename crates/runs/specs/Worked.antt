@@ -15,6 +15,7 @@ use Rattle.passes.specs.Account.{opened}
 use Rattle.passes.specs.Calls.{set_bind_group, set_render_pipeline, set_vertex_buffer, draw, draw_indirect}
 use Rattle.encoder.specs.Opening.{compute_pass, transition}
 use Rattle.encoder.specs.Scenes.{Call, opening, quiet, set, drawing, Stage, recording, in_pass, account_of, next, records, start_of, Answer, taken, refused, not_offered, is_taken, verdict, Scene, Does}
+use Rattle.encoder.specs.declared.state.ListState.{ListState}
 use Rattle.encoder.specs.Phases.{scene}
 
 -- what a call comes to: its commands, or a refusal
@@ -30,16 +31,16 @@ come_to not_offered cs = passed_over
 
 -- what a recorder means behind commands, which used exactly their bytes, as they do in list bytes
 abbrev pub spent : List Command → Meaning → Meaning
-spent cs m = record { device = play cs m.device; space = m.space - sizes cs; made = m.made; shown = shown_more cs m.shown }
+spent cs m = record m { device = play cs m.device; space = m.space - sizes cs; shown = shown_more cs m.shown }
 
 -- the scene behind a call
 abbrev pub behind : Scene → Call → Scene
-behind s c = cond (is_taken (verdict s c)) (scene (next c s.stage) s.null (spent (records s.null c (account_of s.stage)) (start_of c s.meaning))) s
+behind s c = cond (is_taken (verdict s c)) (scene (next c s.stage) s.own (spent (records s.own c (account_of s.stage)) (start_of c s.meaning))) s
 
 -- what calls come to, one after the other
 abbrev pub outcomes : Scene → List Call → List Outcome
 outcomes s [] = []
-outcomes s (c ∷ cs) = come_to (verdict s c) (records s.null c (account_of s.stage)) ∷ outcomes (behind s c) cs
+outcomes s (c ∷ cs) = come_to (verdict s c) (records s.own c (account_of s.stage)) ∷ outcomes (behind s c) cs
 
 -- the scene behind calls
 abbrev pub behind_all : Scene → List Call → Scene
@@ -52,6 +53,10 @@ pub record Plot : Type 0 where
   pub space : ℕ
   pub calls : List Call
   pub outcome : List Outcome
+
+-- what the lists of the plots have beside their recorder: no null target
+abbrev pub beside : ListState
+beside = record { null_target = 0 }
 
 abbrev pub empty : ℕ → Meaning
 empty n = record { device = start; space = n; made = n; shown = Some [] }
@@ -170,7 +175,7 @@ plots k own = curves k ∷ just_enough k ∷ one_byte_short k ∷ markers own �
 
 abbrev pub Come_true : List Plot → Type 0
 Come_true [] = Unit {0}
-Come_true (p ∷ ps) = (outcomes (scene p.stage 0 (empty p.space)) p.calls ≡ p.outcome) × Come_true ps
+Come_true (p ∷ ps) = (outcomes (scene p.stage beside (empty p.space)) p.calls ≡ p.outcome) × Come_true ps
 
 pub record WorkedPlots : Type 0 where
   -- what a call comes to is what the contracts say that it does
@@ -178,7 +183,7 @@ pub record WorkedPlots : Type 0 where
   pub plots_are : (k own : PipelineLayout) → IsPlotted false k → IsPlotted true own → Come_true (plots k own)
   -- behind a draw from the greatest first vertex the special element says -1
   pub minus_one : (k : PipelineLayout) → IsPlotted false k
-      → (account_of (behind_all (scene (curves k).stage 0 (empty (curves k).space)) (curves k).calls).stage).roots.elements 2 ≡ SpecialConstants (record { first_vertex_or_x = negsuc 0; first_instance_or_y = 0; unused_or_z = 0 })
+      → (account_of (behind_all (scene (curves k).stage beside (empty (curves k).space)) (curves k).calls).stage).roots.elements 2 ≡ SpecialConstants (record { first_vertex_or_x = negsuc 0; first_instance_or_y = 0; unused_or_z = 0 })
   -- the bytes of the first draw, of the same again and of one from another vertex, and those of the label
   pub first_size : sizes (whole 7) ≡ 81
   pub again_size : sizes (DrawInstanced 3 1 7 0 ∷ []) ≡ 19

@@ -1,9 +1,9 @@
-// An encoder in whichever phase it is, and the calls that are offered to it.
+//! An encoder in whichever phase it is, and the calls that are offered to it.
 ghost use Rattle.std.specs.Prelude.{◌≡◌, ℕ, true, false, length};
 ghost use Rattle.resources.specs.Batches.{Kept};
 ghost use Rattle.encoder.specs.Scenes.{Does};
 ghost use Rattle.encoder.specs.Handled.{answered};
-ghost use Rattle.encoder.specs.Phases.{idle_scene, list_scene, pass_scene};
+ghost use Rattle.encoder.specs.Phases.{idle_scene, list_scene, render_scene, compute_scene};
 ghost use Rattle.runs.specs.Offering.{call_of, told, phase_scene};
 ghost use Rattle.runs.specs.Leaving.{leaves};
 
@@ -12,7 +12,9 @@ use command_list::fault::Fault;
 use device::recorder::Recorder;
 use encoder::phase::{ComputePass, Idle, Recording, Refusal, RenderPass};
 use resources::scratch::Scratch;
+use core::mem::replace_with;
 
+/// An encoder in one of its four phases.
 pub enum Phase<R> {
     Idle(Idle<R>),
     Recording(Recording<R>),
@@ -21,7 +23,7 @@ pub enum Phase<R> {
 }
 
 impl<R: Recorder> Phase<R> {
-    // The recorder of an encoder that is done with, whether its list was ended or is given up.
+    /// The recorder of an encoder that is done with, whether its list was ended or is given up.
     pub fn into_recorder(self) -> R
         ensures { R.meaning result ≡ (phase_scene R.meaning self).meaning }
     {
@@ -47,7 +49,7 @@ fn answer_of(outcome: Result<(), Fault>) -> Answer
 
 // A call that begins a list.
 fn leave_idle<R: Recorder>(idle: Idle<R>, call: &Call<'_>) -> (Phase<R>, Answer)
-    ensures { (len fill : ℕ) → Does (idle_scene idle.null_target (R.meaning idle.recorder)) (call_of len fill call.now) (told result.1) (phase_scene R.meaning result.0) }
+    ensures { (len fill : ℕ) → Does (idle_scene R.meaning idle) (call_of len fill call.now) (told result.1) (phase_scene R.meaning result.0) }
 {
     match *call {
         Call::BeginEncoding => (Phase::Recording(idle.begin_encoding()), Answer::Taken),
@@ -58,7 +60,7 @@ fn leave_idle<R: Recorder>(idle: Idle<R>, call: &Call<'_>) -> (Phase<R>, Answer)
 // A call that begins a pass or ends a list.
 fn leave_list<R: Recorder>(list: Recording<R>, call: &Call<'_>) -> (Phase<R>, Answer)
     requires { leaves call.now ≡ true }
-    ensures { (len fill : ℕ) → Does (list_scene list.null_target (R.meaning list.recorder)) (call_of len fill call.now) (told result.1) (phase_scene R.meaning result.0) }
+    ensures { (len fill : ℕ) → Does (list_scene R.meaning list) (call_of len fill call.now) (told result.1) (phase_scene R.meaning result.0) }
 {
     match *call {
         Call::EndEncoding => (Phase::Idle(list.end_encoding()), Answer::Taken),
@@ -83,7 +85,7 @@ fn leave_list<R: Recorder>(list: Recording<R>, call: &Call<'_>) -> (Phase<R>, An
 // A call that ends a render pass.
 fn leave_render<R: Recorder>(pass: RenderPass<R>, call: &Call<'_>) -> (Phase<R>, Answer)
     requires { leaves call.now ≡ true }
-    ensures { (len fill : ℕ) → Does (pass_scene pass.pass pass.null_target (R.meaning pass.recorder)) (call_of len fill call.now) (told result.1) (phase_scene R.meaning result.0) }
+    ensures { (len fill : ℕ) → Does (render_scene R.meaning pass) (call_of len fill call.now) (told result.1) (phase_scene R.meaning result.0) }
 {
     match *call {
         Call::DiscardEncoding => (Phase::Idle(pass.discard_encoding()), Answer::Taken),
@@ -98,7 +100,7 @@ fn leave_render<R: Recorder>(pass: RenderPass<R>, call: &Call<'_>) -> (Phase<R>,
 // A call that ends a compute pass.
 fn leave_compute<R: Recorder>(pass: ComputePass<R>, call: &Call<'_>) -> (Phase<R>, Answer)
     requires { leaves call.now ≡ true }
-    ensures { (len fill : ℕ) → Does (pass_scene pass.pass pass.null_target (R.meaning pass.recorder)) (call_of len fill call.now) (told result.1) (phase_scene R.meaning result.0) }
+    ensures { (len fill : ℕ) → Does (compute_scene R.meaning pass) (call_of len fill call.now) (told result.1) (phase_scene R.meaning result.0) }
 {
     match *call {
         Call::DiscardEncoding => (Phase::Idle(pass.discard_encoding()), Answer::Taken),
@@ -127,7 +129,7 @@ fn keep_list<R: Recorder>(list: &mut Recording<R>, scratch: &mut Scratch, call: 
     requires { leaves call.now ≡ false }
     ensures lent { scratch.new.entries.ghost_name ≡ scratch.old.entries.ghost_name }
     ensures kept { Kept scratch.old.mark.fill scratch.new.mark.fill scratch.old.entries.now scratch.new.entries.now }
-    ensures does { Does (list_scene list.old.null_target (R.meaning list.old.recorder)) (call_of (length scratch.old.entries.now) scratch.old.mark.fill call.now) (told result) (list_scene list.new.null_target (R.meaning list.new.recorder)) }
+    ensures does { Does (list_scene R.meaning list.old) (call_of (length scratch.old.entries.now) scratch.old.mark.fill call.now) (told result) (list_scene R.meaning list.new) }
 {
     match *call {
         Call::TransitionBuffers(barriers) => answer_of(list.transition_buffers(scratch, barriers)),
@@ -140,7 +142,7 @@ fn keep_list<R: Recorder>(list: &mut Recording<R>, scratch: &mut Scratch, call: 
 
 fn keep_render<R: Recorder>(pass: &mut RenderPass<R>, call: &Call<'_>) -> Answer
     requires { leaves call.now ≡ false }
-    ensures { (len fill : ℕ) → Does (pass_scene pass.old.pass pass.old.null_target (R.meaning pass.old.recorder)) (call_of len fill call.now) (told result) (pass_scene pass.new.pass pass.new.null_target (R.meaning pass.new.recorder)) }
+    ensures { (len fill : ℕ) → Does (render_scene R.meaning pass.old) (call_of len fill call.now) (told result) (render_scene R.meaning pass.new) }
 {
     match *call {
         Call::SetBindGroup {
@@ -183,7 +185,7 @@ fn keep_compute<R: Recorder>(
     requires { leaves call.now ≡ false }
     ensures lent { scratch.new.entries.ghost_name ≡ scratch.old.entries.ghost_name }
     ensures kept { Kept scratch.old.mark.fill scratch.new.mark.fill scratch.old.entries.now scratch.new.entries.now }
-    ensures does { Does (pass_scene pass.old.pass pass.old.null_target (R.meaning pass.old.recorder)) (call_of (length scratch.old.entries.now) scratch.old.mark.fill call.now) (told result) (pass_scene pass.new.pass pass.new.null_target (R.meaning pass.new.recorder)) }
+    ensures does { Does (compute_scene R.meaning pass.old) (call_of (length scratch.old.entries.now) scratch.old.mark.fill call.now) (told result) (compute_scene R.meaning pass.new) }
 {
     match *call {
         Call::SetBindGroup {
@@ -229,20 +231,44 @@ pub(crate) fn keep<R: Recorder>(
     }
 }
 
-// Makes one call, or passes it over where the phase does not offer it.
+/// Makes one call, or passes it over where the phase does not offer it. The phase stays where it is, and is moved only
+/// by a call that begins or ends a list or a pass.
+pub fn step<R: Recorder>(phase: &mut Phase<R>, scratch: &mut Scratch, call: Call<'_>) -> Answer
+    ensures lent { scratch.new.entries.ghost_name ≡ scratch.old.entries.ghost_name }
+    ensures kept {
+        Kept scratch.old.mark.fill scratch.new.mark.fill scratch.old.entries.now scratch.new.entries.now
+    }
+    ensures does {
+        Does (phase_scene R.meaning phase.old)
+            (call_of (length scratch.old.entries.now) scratch.old.mark.fill call.entry)
+            (told result)
+            (phase_scene R.meaning phase.new)
+    }
+{
+    if call.leaves_phase() {
+        return replace_with(phase, &call, leave);
+    }
+    keep(phase, scratch, &call)
+}
+
+/// The same of a phase that is handed over, and handed back behind the call.
 pub fn offer<R: Recorder>(
     phase: Phase<R>,
     scratch: &mut Scratch,
     call: Call<'_>,
 ) -> (Phase<R>, Answer)
     ensures lent { scratch.new.entries.ghost_name ≡ scratch.old.entries.ghost_name }
-    ensures kept { Kept scratch.old.mark.fill scratch.new.mark.fill scratch.old.entries.now scratch.new.entries.now }
-    ensures does { Does (phase_scene R.meaning phase) (call_of (length scratch.old.entries.now) scratch.old.mark.fill call.entry) (told result.1) (phase_scene R.meaning result.0) }
-{
-    if call.leaves_phase() {
-        return leave(phase, &call);
+    ensures kept {
+        Kept scratch.old.mark.fill scratch.new.mark.fill scratch.old.entries.now scratch.new.entries.now
     }
+    ensures does {
+        Does (phase_scene R.meaning phase)
+            (call_of (length scratch.old.entries.now) scratch.old.mark.fill call.entry)
+            (told result.1)
+            (phase_scene R.meaning result.0)
+    }
+{
     let mut phase = phase;
-    let answer = keep(&mut phase, scratch, &call);
+    let answer = step(&mut phase, scratch, call);
     (phase, answer)
 }

@@ -43,20 +43,21 @@ fn a_pair_is_taken_whole_on_a_board(rt: HostRuntime) {
 }
 
 #[test]
-fn a_pair_is_taken_whole_into_list_bytes(rt: HostRuntime) {
+fn a_pair_is_taken_whole_into_list_bytes(rt: HostRuntime) -> Result<(), Fail> {
     let mut bytes = [0u8; 28];
-    let mut list = ListBytes::new(&mut bytes);
+    let mut list = ListBytes::new(&mut bytes)?;
     assert!(rt; pairs_taken(&mut list) == (true, false));
     assert!(rt; list.list() == [1, 0, 5, 4, 0, 0, 0, 5, 0, 5, 6, 0, 0, 0, 9].as_slice());
+    Ok(())
 }
 
 #[test]
-fn a_ration_is_kept_over_each_recorder(rt: HostRuntime) {
+fn a_ration_is_kept_over_each_recorder(rt: HostRuntime) -> Result<(), Fail> {
     let (board, taken) = rationed(Board::new(100), 14);
     assert!(rt; taken == (true, false));
     assert_eq!(rt; board.space(), 86);
     let mut bytes = [0u8; 100];
-    let (list, taken) = rationed(ListBytes::new(&mut bytes), 27);
+    let (list, taken) = rationed(ListBytes::new(&mut bytes)?, 27);
     assert!(rt; taken == (true, false));
     assert_eq!(rt; list.list().len(), 15);
     let (board, taken) = rationed_twice(Board::new(100), 27);
@@ -65,6 +66,7 @@ fn a_ration_is_kept_over_each_recorder(rt: HostRuntime) {
     let (board, taken) = rationed_twice(board, 28);
     assert!(rt; taken == (true, true));
     assert_eq!(rt; board.pipeline(), 10);
+    Ok(())
 }
 
 const LIST: [u8; 15] = [1, 0, 5, 4, 0, 0, 0, 5, 0, 5, 6, 0, 0, 0, 9];
@@ -78,7 +80,7 @@ fn a_list_is_played_whole_or_not_at_all(rt: HostRuntime) -> Result<(), Fail> {
     assert!(rt; play(&mut board, &LIST).is_ok());
     assert_eq!(rt; board.space(), 0);
     let mut bytes = [0u8; 15];
-    let mut list = ListBytes::new(&mut bytes);
+    let mut list = ListBytes::new(&mut bytes)?;
     assert!(rt; play(&mut list, &LIST).is_ok());
     assert!(rt; list.list() == LIST.as_slice());
     assert_eq!(rt; board_of(&LIST)?.pipeline(), 9);

@@ -8,9 +8,10 @@ use list_writer::writer::Recordable;
 use resources::barrier::Uses;
 use resources::uses::{BufferUses, TextureUses};
 
-// A flag with its name.
+/// A flag with its name.
 pub(crate) type Flag = (u32, &'static str);
 
+/// The usages of a buffer, under wgpu's names.
 pub(crate) const BUFFER_FLAGS: [Flag; 9] = [
     (BufferUses::COPY_SRC, "COPY_SRC"),
     (BufferUses::COPY_DST, "COPY_DST"),
@@ -26,6 +27,7 @@ pub(crate) const BUFFER_FLAGS: [Flag; 9] = [
     ),
 ];
 
+/// The usages of a texture, under wgpu's names.
 pub(crate) const TEXTURE_FLAGS: [Flag; 10] = [
     (TextureUses::UNINITIALIZED, "UNINITIALIZED"),
     (TextureUses::COPY_SRC, "COPY_SRC"),
@@ -39,7 +41,7 @@ pub(crate) const TEXTURE_FLAGS: [Flag; 10] = [
     (TextureUses::STORAGE_READ_WRITE, "STORAGE_READ_WRITE"),
 ];
 
-// Microsoft's values and names, all of them: `resources` has those that it maps to.
+// All values of Microsoft's `D3D12_RESOURCE_STATES` with their names; usages map to some of them.
 const STATES: [Flag; 12] = [
     (0x1, "VERTEX_AND_CONSTANT_BUFFER"),
     (0x2, "INDEX_BUFFER"),
@@ -67,7 +69,8 @@ fn print_names(rt: &impl Print, number: u32, flags: &[Flag], none: &str) -> Resu
     Ok(())
 }
 
-// A usage whose flags are known, and the state that it comes to. `Uses` does not give the bits, so they are handed over.
+/// A usage with the names of its flags, and the state that it maps to. Refused with 1 where a flag
+/// is not known. `bits` are the bits of `usage`.
 pub(crate) fn print_usage<U: Uses + Drop>(
     rt: &(impl Print + AllocGlobal),
     usage: U,
@@ -90,7 +93,7 @@ fn label_record(label: &str, bytes: &mut [u8]) -> Result<usize, Fault> {
     Command::BeginEvent(label.units()).append_to(bytes, 0)
 }
 
-// The record of a label.
+/// The record of an event with a label, byte by byte. Refused with 1 or 2, as labels are.
 pub(crate) fn print_label(rt: &(impl Print + AllocGlobal), label: &str) -> Result<(), Failure> {
     let mut bytes = [0u8; 1024];
     let size = label_record(label, &mut bytes).map_err(|fault| refusal(
@@ -108,7 +111,7 @@ pub(crate) fn print_label(rt: &(impl Print + AllocGlobal), label: &str) -> Resul
     Ok(())
 }
 
-// The owners of a layout's slots.
+/// A layout's root signature, and who owns each of its slots.
 pub(crate) fn print_layout(rt: &impl Print, layout: &PipelineLayout) -> Result<(), Failure> {
     let signature = layout.signature();
     print!(rt; "layout of signature {signature}")?;

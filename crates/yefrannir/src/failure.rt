@@ -3,6 +3,7 @@ use command_list::fault::Fault;
 use std::alloc::{AllocError, Global};
 use std::{fmt, io};
 
+/// Why the program ends with status 1.
 #[derive(Debug, Drop)]
 pub(crate) enum Failure {
     BadArguments,
@@ -19,13 +20,13 @@ pub(crate) enum Failure {
     OtherState,
     OtherSignature,
     OtherSample,
-    // What is refused, and why.
+    /// What is refused, and why.
     Refused(String, Fault),
-    // A file that cannot be read, and why.
+    /// A file that cannot be read, and why.
     Unread(String, io::Error),
-    // A script that is no text.
+    /// A script that is not UTF-8.
     NoText(String),
-    // A file that cannot be written, and why.
+    /// A file that cannot be written, and why.
     Unwritten(String, io::Error),
     Memory(AllocError),
     Io(io::Error),
@@ -80,7 +81,7 @@ impl From<io::Error> for Failure {
     }
 }
 
-// A refusal, with what is refused.
+/// A refusal, with what is refused.
 pub(crate) fn refusal(alloc: Global, what: &str, fault: Fault) -> Failure {
     match String::from_str(alloc, what) {
         Ok(what) => Failure::Refused(what, fault),

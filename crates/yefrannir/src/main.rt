@@ -1,4 +1,8 @@
-// Shows command lists: the embedded plot, or a list file.
+//! The program: it takes the embedded season plot through the encoder and shows its list, shows and
+//! plays list files, runs scripts of calls, and answers single questions: `HELP` has its arguments.
+//!
+//! What it cannot do gives one line on standard error and status 1. What it prints is compared with
+//! expected output; no contract here says it.
 #![tactic(auto)]
 
 mod facts;

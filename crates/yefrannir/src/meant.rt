@@ -1,4 +1,4 @@
-// Calls as the encoder takes them, of calls as a script says them.
+// The calls of a script, as the encoder takes them.
 use layouts::layout::PipelineLayout;
 use layouts::pipeline::{ComputePipeline, RenderPipeline};
 use passes::state::BindGroup;
@@ -7,7 +7,7 @@ use scripts::line::OwnedCall;
 use scripts::names::Names;
 use scripts::not_done::NotDone;
 
-// What a call names, to be lent to it.
+/// What a call names, kept here so that the call can borrow it.
 #[derive(Drop)]
 pub(crate) struct Found {
     layout: Option<PipelineLayout>,
@@ -16,7 +16,7 @@ pub(crate) struct Found {
 }
 
 impl Found {
-    // Nothing yet.
+    /// Nothing yet.
     pub(crate) fn new() -> Found {
         Found {
             layout: None,
@@ -26,7 +26,7 @@ impl Found {
     }
 }
 
-// An arm for each call: a table, which is longer than other functions.
+/// The call that a line says, with what it names looked up. A name that is not defined is refused.
 pub(crate) fn meant<'a>(
     names: &Names,
     call: &'a OwnedCall,

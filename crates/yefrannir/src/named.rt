@@ -5,7 +5,7 @@ use command_list::reader::Reader;
 use command_list::record::Record;
 use std::alloc::Global;
 
-// A list file's bytes, and the name that messages give it. The runtime is passed beside it, as a handle is everywhere.
+/// A list file's bytes, and the name that messages give it.
 #[derive(Clone, Copy)]
 pub(crate) struct Named<'a> {
     pub(crate) name: &'a str,
@@ -13,12 +13,12 @@ pub(crate) struct Named<'a> {
 }
 
 impl Named<'_> {
-    // A refusal of the list.
+    /// A refusal of the list.
     pub(crate) fn refusal(self, alloc: Global, fault: Fault) -> Failure {
         refusal(alloc, self.name, fault)
     }
 
-    // Hands each record with its place to `visit`, up to the first record that is refused.
+    /// Hands each record with its place to `visit`, up to the first record that is refused.
     pub(crate) fn each_record<V: FnMut(usize, Record) -> Result<(), Failure>>(
         self,
         alloc: Global,

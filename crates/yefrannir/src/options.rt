@@ -2,14 +2,16 @@
 use crate::failure::Failure;
 use command_list::reader::MOST_BYTES;
 
+/// The arguments of `run`.
 #[derive(Drop)]
 pub(crate) struct Options {
+    /// The path of the script.
     pub(crate) script: String,
-    // Whether the record of the pass is told after each line.
+    /// Whether the record of the pass is told after each line.
     pub(crate) with_pass: bool,
-    // The file that the last list is written to.
+    /// The file that the last list is written to.
     pub(crate) list: Option<String>,
-    // How many bytes a list has at the start.
+    /// How many bytes a list has at the start.
     pub(crate) space: usize,
 }
 
@@ -21,7 +23,7 @@ enum Awaited {
     Space,
 }
 
-// The words behind `run`: options stand before the script or behind it.
+/// Reads the words behind `run`: options stand before the script or behind it.
 pub(crate) fn read_options(words: Vec<String>) -> Result<Options, Failure> {
     let mut script = None;
     let mut with_pass = false;

@@ -1,13 +1,13 @@
-// What is asked of an encoder in whichever phase it is: its list, the record of its pass, and what an
-// answer of it says.
+// What is asked of an encoder in any phase: its list, the state of its pass, and what it answered.
 use list_bytes::ListBytes;
 use passes::state::PassState;
 use runs::call::Answer;
 use runs::phase::Phase;
 use scripts::not_done::NotDone;
 
-// A recorder whose list can be read.
+/// A recorder whose list can be read.
 pub(crate) trait Readable {
+    /// The list, as far as it is written.
     fn written(&self) -> &[u8];
 }
 
@@ -17,7 +17,7 @@ impl Readable for ListBytes<'_> {
     }
 }
 
-// The list that an encoder has.
+/// The list that an encoder has.
 pub(crate) fn written<R: Readable>(phase: &Phase<R>) -> &[u8] {
     match phase {
         Phase::Idle(idle) => idle.recorder().written(),
@@ -27,7 +27,7 @@ pub(crate) fn written<R: Readable>(phase: &Phase<R>) -> &[u8] {
     }
 }
 
-// The record of the pass that an encoder is in.
+/// The state of the pass that an encoder is in.
 pub(crate) fn pass_record<R>(phase: &Phase<R>) -> Option<PassState> {
     match phase {
         Phase::Idle(_) | Phase::Recording(_) => None,
@@ -36,7 +36,7 @@ pub(crate) fn pass_record<R>(phase: &Phase<R>) -> Option<PassState> {
     }
 }
 
-// What an answer says of a line.
+/// What an answer says of a line: a call that was refused or not offered is not done.
 pub(crate) fn outcome(answer: Answer) -> Result<(), NotDone> {
     match answer {
         Answer::Taken => Ok(()),

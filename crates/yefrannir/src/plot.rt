@@ -1,4 +1,4 @@
-// The embedded plot, taken through end to end: its calls make an encoder's list, which is read back and played.
+// The embedded plot, end to end: its calls make an encoder's list, which is read back and played.
 use crate::facts::print_layout;
 use crate::failure::{Failure, refusal};
 use crate::named::Named;
@@ -43,7 +43,7 @@ fn all_taken(alloc: Global, answers: &[Answer]) -> Result<(), Failure> {
     Ok(())
 }
 
-// The plot as list bytes.
+/// The plot as a list in these bytes, made by an encoder that takes every call.
 pub(crate) fn plot_list<'a>(
     alloc: Global,
     bytes: &'a mut [u8],
@@ -88,7 +88,7 @@ fn bytes_agree(list: &[u8]) -> Result<bool, Fault> {
     Ok(written.get(0..end) == Some(list) && again.get(0..size) == Some(list))
 }
 
-// The first sample of the latest curve, as the board's special constants have it, and as its draw has it.
+// The first sample of the latest curve: in the board's special constants, and in its draw.
 fn first_samples(board: &Board, layout: &PipelineLayout) -> Option<(u32, u32)> {
     let slot = layout.special()?.root_index;
     let RootSlot::Words(words) = board.slot(Half::Graphics, slot as u8) else {
@@ -100,7 +100,8 @@ fn first_samples(board: &Board, layout: &PipelineLayout) -> Option<(u32, u32)> {
     Some((words[0]?, first_vertex))
 }
 
-// The plot's list on a board, which has to agree with a board that was given the plot and with the plot's layout.
+// Plays the plot's list on a board, which has to agree with a board that an encoder recorded the
+// plot on, and with the plot's layout.
 fn play_plot(
     rt: &(impl Print + AllocGlobal),
     plot: Named,
@@ -143,12 +144,13 @@ fn show_plot(
     play_plot(rt, plot, pipeline)
 }
 
-// The plot's layout.
+/// The plot's layout, which is never refused.
 pub(crate) fn plot_layout(rt: &impl AllocGlobal) -> Result<PipelineLayout, Failure> {
     season_plot::layout(true).map_err(|fault| refusal(rt.alloc(), "the plot's layout", fault))
 }
 
-// The embedded plot.
+/// Takes the embedded plot through the encoder, and prints its layout, its list and what the list
+/// was held against. Fails where two of these differ.
 pub(crate) fn run_plot(rt: &(impl Print + AllocGlobal)) -> Result<(), Failure> {
     records_are_known();
     plot_is_recorded();

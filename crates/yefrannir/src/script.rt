@@ -1,18 +1,20 @@
-// A script that is run: its calls are offered to an encoder over list bytes, and what becomes of each line is told.
+// A run of a script: its calls are offered to an encoder over list bytes, and each line is printed
+// with what became of it.
 ghost use Rattle.std.specs.Prelude.{◌≤◌, length, IfOk};
 
-use crate::failure::Failure;
+use crate::failure::{Failure, refusal};
 use crate::meant::{Found, meant};
 use crate::named::Named;
 use crate::phases::{Readable, outcome, pass_record, written};
 use command_list::command::{Barrier, BarrierType, Half};
+use command_list::fault::Fault;
 use command_list::reader::MOST_BYTES;
 use device::recorder::Recorder;
 use encoder::phase::Idle;
 use list_bytes::ListBytes;
 use passes::state::PassState;
 use resources::scratch::{Mark, Scratch};
-use runs::phase::{Phase, offer};
+use runs::phase::{Phase, step};
 use scripts::line::{Line, OwnedCall, bare, read};
 use scripts::names::Names;
 use scripts::not_done::NotDone;
@@ -22,7 +24,7 @@ use std::alloc::Global;
 // How many entries a scratch has at the start, which are the most that calls take.
 const MOST_ENTRIES: usize = 2048;
 
-// An entry of a scratch that no barrier was put in.
+/// An entry of a scratch that no barrier was put in.
 pub(crate) const FREE: Barrier = Barrier {
     kind: BarrierType::Uav,
     resource: 0,
@@ -34,7 +36,7 @@ pub(crate) const FREE: Barrier = Barrier {
 // The line that begins a list.
 const BEGINS: &str = "begin_encoding";
 
-// What the lines so far have set, and what was told of them.
+/// What the lines so far have set, and what was printed of them.
 #[derive(Drop)]
 pub(crate) struct Session {
     alloc: Global,
@@ -48,6 +50,7 @@ pub(crate) struct Session {
 }
 
 impl Session {
+    /// A session before its first line, whose lists have so many bytes.
     pub(crate) fn new(alloc: Global, space: usize, with_pass: bool) -> Result<Session, Failure> {
         Ok(Session {
             alloc,
@@ -61,7 +64,7 @@ impl Session {
         })
     }
 
-    // What was told of the lines.
+    /// What was printed of the lines.
     pub(crate) fn told(&self) -> &str {
         self.told.as_str()
     }
@@ -95,21 +98,16 @@ impl Session {
     // A call, offered to the encoder.
     fn make<R: Recorder>(
         &mut self,
-        phase: Phase<R>,
+        phase: &mut Phase<R>,
         call: &OwnedCall,
-    ) -> (Phase<R>, Result<(), NotDone>) {
+    ) -> Result<(), NotDone> {
         let mut found = Found::new();
-        match meant(&self.names, call, &mut found) {
-            Ok(call) => {
-                let mut scratch = Scratch {
-                    entries: self.entries.as_mut_slice(),
-                    mark: Mark { fill: self.fill },
-                };
-                let (phase, answer) = offer(phase, &mut scratch, call);
-                (phase, outcome(answer))
-            }
-            Err(error) => (phase, Err(error)),
-        }
+        let call = meant(&self.names, call, &mut found)?;
+        let mut scratch = Scratch {
+            entries: self.entries.as_mut_slice(),
+            mark: Mark { fill: self.fill },
+        };
+        outcome(step(phase, &mut scratch, call))
     }
 
     // Tells the records that a list has behind those that it had before.
@@ -128,15 +126,15 @@ impl Session {
         })
     }
 
-    // Tells the record of a pass.
+    // Tells the state of a pass.
     fn tell_pass(&mut self, pass: &PassState) -> Result<(), Failure> {
         let shown = ShownPass(pass);
         writeln!(self.told, "  {shown}")?;
         Ok(())
     }
 
-    // Tells what became of a line: its records, or why it was not done, and the record of the pass. Of a pass that the
-    // line gave up, that is as it was left.
+    // Tells what became of a line: its records, or why it was not done, and the state of the pass.
+    // A pass that the line gave up is shown as it was left.
     fn tell<R: Readable>(
         &mut self,
         phase: &Phase<R>,
@@ -162,48 +160,81 @@ impl Session {
     // Does a line, and tells what became of it.
     fn do_line<R: Recorder + Readable>(
         &mut self,
-        phase: Phase<R>,
+        phase: &mut Phase<R>,
         line: &str,
-    ) -> (Phase<R>, Result<(), Failure>) {
-        let before = written(&phase).len();
-        let left = pass_record(&phase);
-        let (phase, done) = match read(self.alloc, line) {
-            Ok(Line::Call(call)) => self.make(phase, &call),
-            Ok(line) => (phase, self.define(line)),
-            Err(error) => (phase, Err(error)),
+        refused: Option<Fault>,
+    ) -> Result<(), Failure> {
+        let before = written(phase).len();
+        let left = pass_record(phase);
+        let done = match (refused, read(self.alloc, line)) {
+            (Some(fault), _) => Err(NotDone::Refused(fault)),
+            (None, Ok(Line::Call(call))) => self.make(phase, &call),
+            (None, Ok(line)) => self.define(line),
+            (None, Err(error)) => Err(error),
         };
-        if let Err(error) = writeln!(self.told, "> {line}") {
-            return (phase, Err(Failure::Memory(error)));
-        }
-        let told = self.tell(&phase, before, left, done);
-        (phase, told)
+        writeln!(self.told, "> {line}")?;
+        self.tell(phase, before, left, done)
     }
 
-    // Does a line and those behind it over a new encoder, up to where the next list begins. The recorder back, and how
-    // many lines behind the first were done.
+    // Does a line and those behind it, up to where the next list begins. Where the list cannot be
+    // begun, the line that begins it is refused. How many lines behind the first were done.
+    fn do_lines<R: Recorder + Readable>(
+        &mut self,
+        phase: &mut Phase<R>,
+        refused: Option<Fault>,
+        first: &str,
+        lines: &[&str],
+    ) -> Result<usize, Failure>
+        ensures { IfOk result (λ n. n ≤ length lines.now) }
+    {
+        self.do_line(phase, first, refused.filter(|_| first == BEGINS))?;
+        for done in 0..lines.len() {
+            if matches!(phase, Phase::Idle(_)) && lines[done] == BEGINS {
+                return Ok(done);
+            }
+            self.do_line(phase, lines[done], None)?;
+        }
+        Ok(lines.len())
+    }
+
+    // Does a line and those behind it over a new encoder, up to where the next list begins. Returns
+    // the recorder, and how many lines behind the first were done.
     fn do_list<R: Recorder + Readable>(
         &mut self,
         recorder: R,
+        refused: Option<Fault>,
         first: &str,
         lines: &[&str],
     ) -> (R, Result<usize, Failure>)
         ensures { IfOk result.1 (λ n. n ≤ length lines.now) }
     {
-        let idle = Idle::new(recorder, self.null_target);
-        let (mut phase, mut told) = self.do_line(Phase::Idle(idle), first);
-        for done in 0..lines.len() {
-            if let Err(failure) = told {
-                return (phase.into_recorder(), Err(failure));
-            }
-            if matches!(&phase, Phase::Idle(_)) && lines[done] == BEGINS {
-                return (phase.into_recorder(), Ok(done));
-            }
-            (phase, told) = self.do_line(phase, lines[done]);
-        }
-        (phase.into_recorder(), told.map(|()| lines.len()))
+        let mut phase = Phase::Idle(Idle::new(recorder, self.null_target));
+        let done = self.do_lines(&mut phase, refused, first, lines);
+        (phase.into_recorder(), done)
     }
 
-    // Does one list in these bytes. How long it is, and how many lines behind the first were done.
+    // Does the lines of a list that cannot be begun: an encoder over a list of no command stays
+    // idle behind them, so that it offers none of their calls.
+    fn do_none(
+        &mut self,
+        fault: Fault,
+        first: &str,
+        lines: &[&str],
+    ) -> Result<(usize, usize), Failure>
+        ensures { IfOk result (λ r. r.1 ≤ length lines.now) }
+    {
+        let mut none = [0];
+        match ListBytes::new(&mut none) {
+            Ok(recorder) => {
+                let (_, done) = self.do_list(recorder, Some(fault), first, lines);
+                Ok((0, done?))
+            }
+            Err(fault) => Err(refusal(self.alloc, "the list", fault)),
+        }
+    }
+
+    // Does one list in these bytes. Returns its length, and how many lines behind the first were
+    // done.
     fn do_bytes(
         &mut self,
         bytes: &mut [u8],
@@ -212,12 +243,17 @@ impl Session {
     ) -> Result<(usize, usize), Failure>
         ensures { IfOk result (λ r. r.1 ≤ length lines.now) }
     {
-        let (list, done) = self.do_list(ListBytes::new(bytes), first, lines);
-        let (end, _) = list.finish();
-        Ok((end, done?))
+        match ListBytes::new(bytes) {
+            Ok(recorder) => {
+                let (list, done) = self.do_list(recorder, None, first, lines);
+                let (end, _) = list.finish();
+                Ok((end, done?))
+            }
+            Err(fault) => self.do_none(fault, first, lines),
+        }
     }
 
-    // Does the lines of a script. The last list.
+    /// Does the lines of a script, and returns the last list.
     pub(crate) fn run(&mut self, script: &str) -> Result<Vec<u8>, Failure> {
         let lines: Vec<&str> = script
             .lines()

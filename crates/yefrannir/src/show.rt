@@ -3,7 +3,7 @@ use command_list::command::{Barrier, BarrierType, Fixed, Half};
 use command_list::record::{Entries, Handles, Record, Units};
 use std::fmt;
 
-// The operands of a record.
+/// The operands of a record, to be printed behind its name.
 #[derive(Clone, Copy)]
 pub struct Operands<'a>(pub Record<'a>);
 
@@ -18,7 +18,6 @@ impl fmt::Display for Operands<'_> {
     }
 }
 
-// Rows are asked for by their place, here and below: they are parts of a file, and no slice.
 fn units_to<W: fmt::Write>(units: Units, f: &mut fmt::Formatter<W>) -> fmt::Result {
     write!(f, " units")?;
     for unit in (0..units.len()).filter_map(|i| units.get(i)) {
@@ -60,7 +59,6 @@ fn barrier_to<W: fmt::Write>(barrier: Barrier, f: &mut fmt::Formatter<W>) -> fmt
     }
 }
 
-// An arm for each command: a table, which is longer than other functions.
 fn fixed_to<W: fmt::Write>(fixed: Fixed, f: &mut fmt::Formatter<W>) -> fmt::Result {
     match fixed {
         Fixed::EndEvent => Ok(()),

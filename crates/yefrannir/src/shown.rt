@@ -45,7 +45,7 @@ fn drawn_half(record: Record) -> Option<Half> {
     }
 }
 
-// What a draw or a dispatch finds on the device. The board answers by a slot's number, so loops here go by numbers.
+// What a draw or a dispatch finds on the device.
 fn print_found(rt: &impl Print, board: &Board, half: Half) -> Result<(), Failure> {
     let pipeline = board.pipeline();
     let signature = board.signature(half);
@@ -96,8 +96,8 @@ fn print_counts(rt: &impl Print, board: &Board) -> Result<(), Failure> {
     Ok(())
 }
 
-// Plays a list on a board, up to the first record that is refused: each draw with what it finds,
-// and, of a list that is taken whole, the counts.
+/// Plays a list on a board, up to the first record that is refused: each draw with what it finds,
+/// and, of a list that is taken whole, the counts.
 pub(crate) fn print_play(rt: &(impl Print + AllocGlobal), file: Named) -> Result<(), Failure> {
     let mut board = Board::new(file.list.len());
     file.each_record(rt.alloc(), |at, record| {
@@ -120,7 +120,7 @@ fn same_half(a: &Board, b: &Board, half: Half) -> bool {
         })
 }
 
-// Whether two boards show the same.
+/// Whether two boards show the same.
 pub(crate) fn same(a: &Board, b: &Board) -> bool {
     HALVES.iter().all(|half| same_half(a, b, *half))
         && (0..16).all(|i| a.vertex(i) == b.vertex(i) && a.vertex_writes(i) == b.vertex_writes(i))

@@ -10,8 +10,8 @@ use season_plot::calls::CALLS;
 use std::rt::Clock;
 use std::time::Instant;
 
-// As many records of the plot, one after the other, as a list takes, and how long that list is.
-// By the writer alone, whose time is told: through a recorder it takes half as long again.
+// The plot's records, one after the other, as many as a list takes, and how long that list is. The
+// writer alone writes them: through a recorder it takes half as long again.
 fn fill(bytes: &mut [u8]) -> Result<usize, Fault> {
     let label = season_plot::label()?;
     let upload = season_plot::upload();
@@ -31,7 +31,7 @@ fn told(rt: &impl Print, what: &str, bytes: usize, nanos: u128) -> Result<(), Fa
     Ok(())
 }
 
-// Reads a list once and rewrites it once, with the time of each.
+/// Reads a list once and rewrites it once, with the time of each.
 pub(crate) fn time_list(
     rt: &(impl Print + Clock + AllocGlobal),
     file: Named,
@@ -66,7 +66,8 @@ fn time_plot(rt: &(impl Print + Clock + AllocGlobal)) -> Result<(), Failure> {
     Ok(())
 }
 
-// The same of a list of 64 KiB of mixed records, which is written first, and of an encoder.
+/// The same of a list of 64 KiB of mixed records, which is written first, and of an encoder that
+/// makes the plot.
 pub(crate) fn time_sample(rt: &(impl Print + Clock + AllocGlobal)) -> Result<(), Failure> {
     let name = "a list of 64 KiB";
     let mut bytes = [0u8; MOST_BYTES];

@@ -1,5 +1,6 @@
-use Rattle.std.proofs.Common.{length}
+use Rattle.std.proofs.Common.{◌≡◌, length}
 use Rattle.resources.specs.Batches.{Kept}
+use Rattle.encoder.specs.Phases.{fresh}
 use Rattle.runs.specs.Offering.{phase_scene}
 use Rattle.runs.proofs.Driving.{Driving}
 use Rattle.runs.proofs.drive.drive.Given as goal
@@ -7,5 +8,7 @@ use Rattle.runs.proofs.drive.drive.Given as goal
 -- the calls before this one were made, and the host's part of the scratch stands
 abbrev pub invariant-loop-i : goal.invariant-loop-i
 invariant-loop-i g l =
-    Kept l.fn.scratch.mark.fill l.scratch.mark.fill l.fn.scratch.entries.now l.scratch.entries.now
-    × Driving l.fn.null_target (g.R.Recorder.meaning l.fn.recorder) (length l.fn.scratch.entries.now) l.fn.scratch.mark.fill l.fn.calls l.fn.answers l.answers l.i (phase_scene g.R.Recorder.meaning l.phase)
+    let m = g.R.Recorder.meaning in
+    (l.scratch.entries.ghost_name ≡ l.fn.scratch.entries.ghost_name)
+    × Kept l.fn.scratch.mark.fill l.scratch.mark.fill l.fn.scratch.entries.now l.scratch.entries.now
+    × Driving (fresh l.fn.null_target (m l.fn.recorder)) (length l.fn.scratch.entries.now) l.fn.scratch.mark.fill l.fn.calls l.fn.answers l.answers l.i (phase_scene m l.phase)
