@@ -2,22 +2,23 @@
 use Rattle.std.proofs.Common.{◌≡◌, true, [], ◌∷◌, Some, sym, refl, subst}
 use Rattle.std.specs.Str.{chars}
 use Rattle.device.specs.Writes.{gathered}
+use Rattle.command_list.specs.Bits.{bit}
 use Rattle.bindings.specs.Extents as extents
 use Rattle.layouts.specs.declared.layout.PipelineLayout.{PipelineLayout}
 use Rattle.passes.specs.Account.{unfit}
 use Rattle.encoder.specs.Scenes.{verdict, idle}
 use Rattle.encoder.specs.Phases.{scene}
-use Rattle.runs.specs.Worked.{outcomes, empty, IsPlotted}
+use Rattle.runs.specs.Worked.{outcomes, beside, empty, IsPlotted}
 use Rattle.runs.proofs.Working.{written, is_written}
 use Rattle.season_plot.specs.Plot.{plot_calls, plot_pipeline, plot_commands, plot_upload, plot_label, all_made, PlotIsRecorded, DrawsHaveVertices}
 
 abbrev Recorded : PipelineLayout → Type 0
 Recorded k =
-    all_made (outcomes (scene idle 0 (empty 360)) (plot_calls 1 0 (plot_pipeline k)))
+    all_made (outcomes (scene idle beside (empty 360)) (plot_calls 1 0 (plot_pipeline k)))
     ≡ Some (plot_commands (plot_upload ∷ []) plot_label)
 
 recorded : (k : PipelineLayout) (p : IsPlotted true k) → Recorded (written true k p)
-unfolding verdict unfit gathered chars extents.single lib.Ieee.to_bits lib.Ieee.of_int
+unfolding verdict unfit gathered bit chars extents.single lib.Ieee.to_bits lib.Ieee.of_int
 recorded k p = refl
 
 pub plot_is_recorded : PlotIsRecorded

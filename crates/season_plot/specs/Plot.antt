@@ -13,7 +13,7 @@ use Rattle.passes.specs.Calls.{set_bind_group, set_render_pipeline, set_vertex_b
 use Rattle.encoder.specs.Opening.{render_pass, transition}
 use Rattle.encoder.specs.Scenes.{Call, begin_encoding, end_encoding, opening, ending, quiet, set, drawing, idle}
 use Rattle.encoder.specs.Phases.{scene}
-use Rattle.runs.specs.Worked.{Outcome, makes, refuses, passed_over, outcomes, empty, IsPlotted}
+use Rattle.runs.specs.Worked.{Outcome, makes, refuses, passed_over, outcomes, beside, empty, IsPlotted}
 
 -- pipeline 9 of a layout, which draws line strips, with stride 16 at vertex slot 0
 abbrev pub plot_pipeline : PipelineLayout → RenderPipeline
@@ -136,7 +136,7 @@ all_made (passed_over ∷ os) = None
 -- call is accepted, and together they record the plot's commands
 abbrev pub PlotIsRecorded : Type 0
 PlotIsRecorded = (k : PipelineLayout) → IsPlotted true k
-    → all_made (outcomes (scene idle 0 (empty 360)) (plot_calls 1 0 (plot_pipeline k)))
+    → all_made (outcomes (scene idle beside (empty 360)) (plot_calls 1 0 (plot_pipeline k)))
     ≡ Some (plot_commands (plot_upload ∷ []) plot_label)
 
 -- whether each direct draw finds its vertices in the vertex buffer that was set last; at the start
