@@ -2,6 +2,7 @@
 use Rattle.std.proofs.Common.{◌≡◌, true, [], ◌∷◌, Some, sym, refl, subst}
 use Rattle.std.specs.Str.{chars}
 use Rattle.device.specs.Writes.{gathered}
+use Rattle.command_list.specs.Bits.{bit}
 use Rattle.bindings.specs.Extents as extents
 use Rattle.layouts.specs.declared.layout.PipelineLayout.{PipelineLayout}
 use Rattle.passes.specs.Account.{unfit}

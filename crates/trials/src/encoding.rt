@@ -26,9 +26,10 @@ fn encoded<'a>(bytes: &'a mut [u8]) -> Result<(&'a [u8], [Answer; CALLS]), Fault
     };
     let mut answers = [Answer::NotOffered; CALLS];
     let pipeline = season_plot::pipeline(season_plot::layout(true)?);
-    let list = encode_list(bytes, 0, &mut scratch, &calls(&pipeline), &mut answers)
-        .map_err(|unfit| unfit.fault)?;
-    Ok((list, answers))
+    match encode_list(bytes, 0, &mut scratch, &calls(&pipeline), &mut answers) {
+        Ok(list) => Ok((list, answers)),
+        Err(unfit) => Err(unfit.fault),
+    }
 }
 
 // The plot's commands as a list.

@@ -55,9 +55,10 @@ pub(crate) fn plot_list<'a>(
         mark: Mark { fill: 0 },
     };
     let mut answers = [Answer::NotOffered; CALLS];
-    let list = encode_list(bytes, 0, &mut scratch, &calls(pipeline), &mut answers).map_err(
-        |unfit| refusal(alloc, NAME, unfit.fault),
-    )?;
+    let list = match encode_list(bytes, 0, &mut scratch, &calls(pipeline), &mut answers) {
+        Ok(list) => list,
+        Err(unfit) => return Err(refusal(alloc, NAME, unfit.fault)),
+    };
     all_taken(alloc, &answers)?;
     Ok(list)
 }
