@@ -6,7 +6,7 @@ use Rattle.command_list.proofs.Refusing.{first_law}
 use Rattle.passes.specs.Calls.{is_handle}
 use Rattle.encoder.specs.declared.attachment.ColorAttachment.{ColorAttachment}
 use Rattle.encoder.specs.Opening.{target_of, no_target}
-use Rattle.encoder.specs.Laws.{Says, RefusalsAreFirst}
+use Rattle.encoder.specs.Firsts.{WithoutAt, RefusalsAreFirst}
 
 handle_is : (h : ℕ) → is_handle h ≡ true → 0 < h
 handle_is h e = ltb-true 0 h e
@@ -14,12 +14,12 @@ handle_is h e = ltb-true 0 h e
 no_handle : (h : ℕ) → is_handle h ≡ false → h ≡ 0
 no_handle h e = let l = ltb-false 0 h e in omega (arith, l)
 
-says : (null : ℕ) (os : List (Option ColorAttachment)) (o : Option ℕ) → FirstOf (λ a. is_handle (target_of null a)) os o → Says null os o
+says : (null : ℕ) (os : List (Option ColorAttachment)) (o : Option ℕ) → FirstOf (λ a. is_handle (target_of null a)) os o → WithoutAt null os o
 says null os None f = λ k h. handle_is _ (f k None h)
 says null os (Some i) f = record {
   within = f.within;
   without = no_handle _ (f.fails None);
-  earlier = λ k h. handle_is _ (f.earlier k None h);
+  targets_before = λ k h. handle_is _ (f.earlier k None h);
 }
 
 pub refusals_are_first : RefusalsAreFirst

@@ -3,4 +3,4 @@ pub mod Scenes
 pub mod Putting
 pub mod Handled
 pub mod Phases
-pub mod Laws
+pub mod Firsts

@@ -121,7 +121,7 @@ quiet_records (transition cs len fill) = transition_records (barriers_of cs)
 quiet_records (set_viewport x y w h low high) = RSSetViewports x y w h low high ∷ []
 quiet_records (set_scissor_rect x y w h) = RSSetScissorRects x y (x + w) (y + h) ∷ []
 
--- a scratch of at most 2048 entries takes the barriers that are made from its fill on
+-- the barriers to be made have room from the fill on, in a scratch no longer than 2048 entries
 abbrev pub scratch_takes : ℕ → ℕ → ℕ → Bool
 scratch_takes len fill made = nat_le len 2048 && (made == 0 || nat_le (fill + made) len)
 

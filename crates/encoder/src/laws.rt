@@ -1,5 +1,5 @@
-//! What is so of every opening, as statements that the check asks for.
-ghost use Rattle.encoder.specs.Laws.{RefusalsAreFirst};
+//! Laws of the refusals of openings.
+ghost use Rattle.encoder.specs.Firsts.{RefusalsAreFirst};
 
 /// The attachment that the opening of a render pass refuses with 3 is the first that has no
 /// target: its target, or the null target where it is left out, is 0, and each attachment before
