@@ -71,7 +71,10 @@ fn groups(rt: HostRuntime) {
     assert_eq!(rt; grouped(1, last), Ok(()));
     assert_eq!(rt; grouped(0, last), Err(11));
     assert_eq!(rt; grouped(0, alone(4_000_000_000, false, 0)), Ok(()));
-    assert_eq!(rt; grouped(1, alone(4_294_967_295, true, 4_294_967_295)), Err(11));
+    assert_eq!(rt;
+        grouped(1, alone(4_294_967_295, true, 4_294_967_295)),
+        Err(11)
+    );
     assert_eq!(rt; grouped(2, alone(0, true, 0)), Err(12));
     let mut twice = alone(0, true, 0);
     twice[1] = group(0, false, 1);
@@ -81,7 +84,10 @@ fn groups(rt: HostRuntime) {
 #[test]
 fn single_slots(rt: HostRuntime) {
     assert_eq!(rt; made(5, 2, special(0), immediates(1, 32), NO_GROUP), Ok(()));
-    assert_eq!(rt; made(5, 2, special(2), immediates(1, 32), NO_GROUP), Err(11));
+    assert_eq!(rt;
+        made(5, 2, special(2), immediates(1, 32), NO_GROUP),
+        Err(11)
+    );
     assert_eq!(rt; made(5, 1, None, immediates(0, 0), NO_GROUP), Err(11));
     assert_eq!(rt; made(5, 1, None, immediates(0, 33), NO_GROUP), Err(11));
     assert_eq!(rt; made(5, 1, special(0), immediates(0, 1), NO_GROUP), Err(12));

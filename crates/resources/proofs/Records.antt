@@ -6,18 +6,15 @@ use Rattle.std.proofs.lemmas.List.{nil_from_length}
 use Rattle.command_list.specs.declared.command.Barrier.{Barrier}
 use Rattle.command_list.specs.declared.fault.Fault.{Fault}
 use Rattle.command_list.specs.Numbers.{total}
-use Rattle.command_list.specs.Commands.{Command, ResourceBarrier, entry, readable}
+use Rattle.command_list.specs.Commands.{Command, ResourceBarrier, entry, entry_width, readable}
+use Rattle.list_writer.proofs.Rows.{total_entries}
 use Rattle.device.specs.Meaning.{Meaning, Recorded, Asked, sizes}
 use Rattle.device.proofs.Runs.{recorded_none}
 use Rattle.resources.specs.Batches.{transition_records, Takes, Batched}
 
-pub total_entries : (es : List Barrier) → total (flat_map entry es) ≡ 17 * length es
-total_entries [] = refl
-total_entries (e ∷ es) = let ih = total_entries es in omega arith
-
 pub barriers_readable : (es : List Barrier) → 0 < length es → length es ≤ 2048 → readable (ResourceBarrier es) ≡ true
 barriers_readable es h k =
-    and_from (ltb 0 (length es)) (ltb (total (flat_map entry es)) 65535) (lt-ltb 0 (length es) h) (lt-ltb (total (flat_map entry es)) 65535 (omega (arith, total_entries es)))
+    and_from (ltb 0 (length es)) (ltb (total (flat_map entry es)) 65535) (lt-ltb 0 (length es) h) (lt-ltb (total (flat_map entry es)) 65535 (omega (arith, total_entries entry entry_width (λ e. refl) es)))
 
 pub records_some : (es : List Barrier) → 0 < length es → transition_records es ≡ ResourceBarrier es ∷ []
 records_some [] h = absurd (omega arith)
@@ -57,9 +54,5 @@ module _ (m n : Meaning) (len was end : ℕ) (es part : List Barrier) (short : l
   -- none was made, and nothing is recorded
   pub batch_none : length part ≡ 0 → Batched m len was es (Ok tt) m
   batch_none h =
-      let e = no_records es (omega (arith, ap length put.2, h)) in
+      let e : transition_records es ≡ [] = ap transition_records (nil_from_length es (omega (arith, ap length put.2, h))) in
       (taken_in, omega (arith, ap sizes e), subst (λ (cs : List Command). Recorded m cs m) (sym e) (recorded_none m))
-    where
-      no_records : (es : List Barrier) → length es ≡ 0 → transition_records es ≡ []
-      no_records [] z = refl
-      no_records (b ∷ bs) z = absurd (omega arith)

@@ -140,7 +140,7 @@ one_byte_short k = record {
   outcome = signed ∷ nothing ∷ nothing ∷ refuses 10 0 ∷ [];
 }
 
--- with an indirect signature of its own: behind an indirect draw the constants are written again
+-- with a command signature of its own: behind an indirect draw the constants are written again
 abbrev pub markers : PipelineLayout → Plot
 markers k = record {
   stage = render;

@@ -96,11 +96,7 @@ impl Session {
     }
 
     // A call, offered to the encoder.
-    fn make<R: Recorder>(
-        &mut self,
-        phase: &mut Phase<R>,
-        call: &OwnedCall,
-    ) -> Result<(), NotDone> {
+    fn make<R: Recorder>(&mut self, phase: &mut Phase<R>, call: &OwnedCall) -> Result<(), NotDone> {
         let mut found = Found::new();
         let call = meant(&self.names, call, &mut found)?;
         let mut scratch = Scratch {
