@@ -1,4 +1,5 @@
 // Statements that have no code of their own, but stand on functions that can be called.
+use command_list::fault::full_is_ten;
 use encoder::laws::refusals_are_first as openings_are_refused_at_the_first;
 use labels::laws::utf8_is_unicodes;
 use layouts::laws::{equal_layouts_are_one, every_layout_is_whole};
@@ -7,6 +8,7 @@ use runs::laws::{bad_encoders_are_excluded, every_run_keeps, every_run_shows, wo
 
 #[test]
 fn laws_of_layouts_texts_calls_and_runs() {
+    full_is_ten();
     every_layout_is_whole();
     equal_layouts_are_one();
     utf8_is_unicodes();

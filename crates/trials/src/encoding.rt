@@ -77,13 +77,13 @@ fn in_360_bytes_its_end_is_refused(rt: HostRuntime) -> Result<(), Fail> {
 }
 
 #[test]
-fn a_list_needs_2_to_65536_bytes(rt: HostRuntime) -> Result<(), Fail> {
-    let mut one = [0u8; 1];
-    assert!(rt; encoded(&mut one).map(|_| ()) == Err(FULL));
-    let mut many = [0u8; 65537];
+fn a_list_needs_1_to_65536_bytes(rt: HostRuntime) -> Result<(), Fail> {
+    assert!(rt; encoded(&mut []).map(|_| ()) == Err(FULL));
+    let mut many = [7u8; 65537];
     assert!(rt; encoded(&mut many).map(|_| ()) == Err(FULL));
-    let mut two = [0u8; 2];
-    let (list, answers) = encoded(&mut two)?;
+    assert!(rt; many[0] == 7 && many[65536] == 7);
+    let mut one = [0u8; 1];
+    let (list, answers) = encoded(&mut one)?;
     assert!(rt; list == [1].as_slice());
     assert!(rt; matches!(answers[0], Answer::Taken));
     assert!(rt;
