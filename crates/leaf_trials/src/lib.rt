@@ -1,4 +1,4 @@
-// Tests of layouts, labels, usages, barriers and bindings at the edges of their ranges.
+//! Tests of layouts, labels, usages, barriers and bindings at the edges of their ranges.
 #![tactic(auto)]
 
 #[cfg(test)]

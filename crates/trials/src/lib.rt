@@ -1,4 +1,4 @@
-// Tests of many cases.
+//! Tests of many cases.
 #![tactic(auto)]
 
 #[cfg(test)]
