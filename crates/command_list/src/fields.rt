@@ -1,6 +1,7 @@
 // Operand readers: what the operand bytes of each code say. Each is handed the place of the record,
 // where it refuses.
-ghost use Rattle.std.specs.Prelude.{◌≡◌, ℕ, ◌+◌, ◌*◌, ◌/◌, ◌<◌, ◌≤◌, true, false, List, length, take, drop, Option, Some, None, MatchResult, ◌≢◌, ◌⊎◌};
+ghost use Rattle.std.specs.Prelude.{◌≡◌, ℕ, ◌+◌, ◌*◌, ◌/◌, ◌<◌, ◌≤◌, true, false, List, length};
+ghost use Rattle.std.specs.Prelude.{take, drop, Option, Some, None, MatchResult, ◌≢◌, ◌⊎◌};
 ghost use Rattle.std.specs.List.{slice_get};
 ghost use Rattle.command_list.specs.declared.code.Code.TheVariants as code;
 ghost use Rattle.command_list.specs.Numbers.{number_at};

@@ -1,4 +1,5 @@
-ghost use Rattle.std.specs.Prelude.{◌≡◌, ◌+◌, ◌*◌, ◌/◌, ◌<◌, ◌≤◌, ℕ, List, length, is_some, if◌then◌else◌, Option, Some, None, nat_lt};
+ghost use Rattle.std.specs.Prelude.{◌≡◌, ◌+◌, ◌*◌, ◌/◌, ◌<◌, ◌≤◌, ℕ, List, length, is_some};
+ghost use Rattle.std.specs.Prelude.{if◌then◌else◌, Option, Some, None, nat_lt};
 ghost use Rattle.std.specs.List.{slice_get};
 
 use crate::command::{Barrier, Call};

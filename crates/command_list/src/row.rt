@@ -1,4 +1,5 @@
-ghost use Rattle.std.specs.Prelude.{◌≡◌, ℕ, ◌+◌, ◌*◌, ◌/◌, ◌<◌, ◌≤◌, if◌then◌else◌, nat_le, List, length, is_some, Option, Some, None};
+ghost use Rattle.std.specs.Prelude.{◌≡◌, ℕ, ◌+◌, ◌*◌, ◌/◌, ◌<◌, ◌≤◌, if◌then◌else◌, nat_le};
+ghost use Rattle.std.specs.Prelude.{List, length, is_some, Option, Some, None};
 ghost use Rattle.std.specs.List.{slice_get, list_all, range_with_len};
 ghost use Rattle.command_list.specs.Numbers.{number_at};
 ghost use Rattle.command_list.specs.Commands.{entry_width};

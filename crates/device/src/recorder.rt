@@ -1,7 +1,14 @@
 // The trait of what commands are recorded into.
 ghost use Rattle.std.specs.Prelude.{◌≡◌, ◌<◌, ◌≤◌, MatchResult, slice_index};
 ghost use Rattle.command_list.specs.declared.command.Half.TheVariants.{Graphics, Compute};
-ghost use Rattle.command_list.specs.Commands.{BeginEvent, EndEvent, SetDescriptorHeaps, SetRootSignature, SetPipelineState, IASetPrimitiveTopology, IASetVertexBuffers, SetRoot32BitConstant, SetRootDescriptorTable, SetRootConstantBufferView, OMSetRenderTargets, ClearRenderTargetView, RSSetViewports, RSSetScissorRects, ResourceBarrier, DrawInstanced, Dispatch, ExecuteIndirect};
+ghost use Rattle.command_list.specs.Commands.{BeginEvent, EndEvent, SetDescriptorHeaps};
+ghost use Rattle.command_list.specs.Commands.{SetRootSignature, SetPipelineState};
+ghost use Rattle.command_list.specs.Commands.{IASetPrimitiveTopology, IASetVertexBuffers};
+ghost use Rattle.command_list.specs.Commands.{SetRoot32BitConstant, SetRootDescriptorTable};
+ghost use Rattle.command_list.specs.Commands.{SetRootConstantBufferView, OMSetRenderTargets};
+ghost use Rattle.command_list.specs.Commands.{ClearRenderTargetView, RSSetViewports};
+ghost use Rattle.command_list.specs.Commands.{RSSetScissorRects, ResourceBarrier, DrawInstanced};
+ghost use Rattle.command_list.specs.Commands.{Dispatch, ExecuteIndirect};
 ghost use Rattle.command_list.specs.Seen.{IsFault, fixed_command};
 ghost use Rattle.device.specs.Meaning.{Meaning, Asked, Anew};
 

@@ -2,7 +2,9 @@
 ghost use Rattle.std.specs.Prelude.{◌≡◌, ℕ, ◌≤◌, true, [], ◌∷◌, ◌++◌, length, map, take, None, option_map};
 ghost use Rattle.command_list.specs.Commands.{SetDescriptorHeaps, OMSetRenderTargets, size};
 ghost use Rattle.device.specs.Meaning.{sizes};
-ghost use Rattle.encoder.specs.Opening.{target_of, clears, clear_records, no_target, render_pass, compute_pass, asks_opening, opening_records, ending_records};
+ghost use Rattle.encoder.specs.Opening.{target_of, clears, clear_records, no_target};
+ghost use Rattle.encoder.specs.Opening.{render_pass, compute_pass, asks_opening};
+ghost use Rattle.encoder.specs.Opening.{opening_records, ending_records};
 ghost use Rattle.encoder.specs.Putting.{Put, Offered, event_records, CanBegin, frame_records, colour_of, HaveTargets};
 ghost use Rattle.command_list.specs.Refusals.{fault_at, fault_of};
 

@@ -1,7 +1,8 @@
 //! What the pipeline calls of both kinds of pass have in common.
 ghost use Rattle.std.specs.Prelude.{◌≡◌, ◌≤◌, [], ◌∷◌, ◌++◌};
 ghost use Rattle.device.specs.Meaning.{sizes};
-ghost use Rattle.passes.specs.Calls.{set_render_pipeline, set_compute_pipeline, signature_first, asks_set, set_records, after_set};
+ghost use Rattle.passes.specs.Calls.{set_render_pipeline, set_compute_pipeline, signature_first};
+ghost use Rattle.passes.specs.Calls.{asks_set, set_records, after_set};
 ghost use Rattle.passes.specs.State.{account};
 ghost use Rattle.encoder.specs.Handled.{Handled};
 ghost use Rattle.encoder.specs.Putting.{Put};

@@ -1,7 +1,8 @@
 //! The calls of a render pass.
 ghost use Rattle.std.specs.Prelude.{MatchResult, slice_index};
 ghost use Rattle.command_list.specs.declared.command.Half.TheVariants.{Graphics};
-ghost use Rattle.passes.specs.Calls.{set_bind_group, set_immediates, set_render_pipeline, set_vertex_buffer, draw, draw_indirect};
+ghost use Rattle.passes.specs.Calls.{set_bind_group, set_immediates, set_render_pipeline};
+ghost use Rattle.passes.specs.Calls.{set_vertex_buffer, draw, draw_indirect};
 ghost use Rattle.encoder.specs.Opening.{set_viewport, set_scissor_rect};
 ghost use Rattle.encoder.specs.Scenes.{discard_encoding, ending, quiet, set, drawing, taken, refused, Does};
 ghost use Rattle.encoder.specs.Handled.{answered};

@@ -1,6 +1,8 @@
 // The parts that own a layout's slots, what a new layout asks of them, and the masks of its slots.
 ghost use Rattle.std.specs.Prelude.{◌≡◌, ◌≤◌, length};
-ghost use Rattle.layouts.specs.Owners.{first_uniform, behind, of_group, of_groups, owners, group_within, groups_within, fits as fitting, once_below, is_table, is_uniform};
+ghost use Rattle.layouts.specs.Owners.{first_uniform, behind, of_group, of_groups, owners};
+ghost use Rattle.layouts.specs.Owners.{group_within, groups_within, fits as fitting};
+ghost use Rattle.layouts.specs.Owners.{once_below, is_table, is_uniform};
 ghost use Rattle.layouts.specs.Masks.{Masks, Gathered};
 
 use crate::info::{BindGroupInfo, ImmediatesInfo, MAX_BIND_GROUPS, PipelineLayoutSpecialConstants};

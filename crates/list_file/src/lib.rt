@@ -7,7 +7,8 @@
 ghost use Rattle.std.specs.Prelude.{◌≡◌, ◌≤◌, true, map, length, MatchResult};
 ghost use Rattle.command_list.specs.Files.{most_bytes, is_accepted, encoded, file as file_said};
 ghost use Rattle.command_list.specs.Seen.{given_command};
-ghost use Rattle.list_file.specs.Passing.{Checked, Rewritten, ListSize, ListWritten, Listed, all_readable, RecordsKnown};
+ghost use Rattle.list_file.specs.Passing.{Checked, Rewritten, ListSize, ListWritten};
+ghost use Rattle.list_file.specs.Passing.{Listed, all_readable, RecordsKnown};
 
 use command_list::command::Command;
 use command_list::fault::{FULL, Fault};

@@ -1,6 +1,8 @@
 ghost use Rattle.std.specs.Prelude.{◌≡◌, ℕ, ◌+◌, ◌<◌, true, length};
 ghost use Rattle.command_list.specs.Numbers.{total};
-ghost use Rattle.command_list.specs.Commands.{Command, BeginEvent, OMSetRenderTargets, ResourceBarrier, kind_byte, in_range, size as command_size, code_of, fields};
+ghost use Rattle.command_list.specs.Commands.{Command, BeginEvent, OMSetRenderTargets};
+ghost use Rattle.command_list.specs.Commands.{ResourceBarrier, kind_byte, in_range};
+ghost use Rattle.command_list.specs.Commands.{size as command_size, code_of, fields};
 ghost use Rattle.command_list.specs.Seen.{fixed_command, call_command};
 ghost use Rattle.list_writer.specs.Writing.{Appended, Begun, IsFixed, Measured, Written};
 

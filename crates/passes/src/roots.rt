@@ -2,7 +2,9 @@
 ghost use Rattle.std.specs.Prelude.{◌≡◌, ℕ, ◌+◌, ◌<◌, ◌≤◌, length, map, Some, None};
 ghost use Rattle.layouts.specs.Owners.{first_uniform};
 ghost use Rattle.passes.specs.declared.element.RootElement.TheVariants.{DynamicUniformBuffer};
-ghost use Rattle.passes.specs.Account.{nothing_bound, filled, filled_from, renewed, switched, is_current, group_elements, constants_at, current_special, own_slot, emptied, untouched, unfit};
+ghost use Rattle.passes.specs.Account.{nothing_bound, filled, filled_from, renewed, switched};
+ghost use Rattle.passes.specs.Account.{is_current, group_elements, constants_at, current_special};
+ghost use Rattle.passes.specs.Account.{own_slot, emptied, untouched, unfit};
 ghost use Rattle.passes.specs.Calls.{addresses, too_far, supplied, asks_layout, prepared_by, wiped_slot};
 ghost use Rattle.passes.specs.Flush.{firsts, words_used};
 ghost use Rattle.passes.specs.State.{bound_of, restored};

@@ -1,7 +1,10 @@
 // The state of a pass.
 ghost use Rattle.std.specs.Prelude.{◌≡◌, ◌&&◌, not, length};
 ghost use Rattle.passes.specs.Account.{opened, is_current, own_slot, with_roots};
-ghost use Rattle.passes.specs.Calls.{set_bind_group, set_immediates, set_render_pipeline, set_compute_pipeline, set_vertex_buffer, after_set, asks_pipeline, is_signed, asks_account, too_far, addresses, prepared_by, marked};
+ghost use Rattle.passes.specs.Calls.{set_bind_group, set_immediates, set_render_pipeline};
+ghost use Rattle.passes.specs.Calls.{set_compute_pipeline, set_vertex_buffer, after_set};
+ghost use Rattle.passes.specs.Calls.{asks_pipeline, is_signed, asks_account, too_far};
+ghost use Rattle.passes.specs.Calls.{addresses, prepared_by, marked};
 ghost use Rattle.passes.specs.State.{bound_of, account, restored, Sets};
 ghost use Rattle.command_list.specs.Refusals.{fault_at, fault_of};
 

@@ -31,7 +31,8 @@ fn named<T: Copy>(alloc: Global, defined: &BTreeMap<String, T>, name: &str) -> R
 }
 
 impl Names {
-    ghost use Rattle.scripts.specs.Naming.{told, verdict_of, Keeps, DefinesLayout, DefinesRenderPipeline, DefinesComputePipeline};
+    ghost use Rattle.scripts.specs.Naming.{told, verdict_of, Keeps, DefinesLayout};
+    ghost use Rattle.scripts.specs.Naming.{DefinesRenderPipeline, DefinesComputePipeline};
 
     /// No name is defined.
     pub fn new(alloc: Global) -> Names
