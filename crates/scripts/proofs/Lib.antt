@@ -1,0 +1,4 @@
+mod Folds
+mod Numerals
+mod Others
+mod Rows

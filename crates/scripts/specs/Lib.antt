@@ -1,4 +1,7 @@
+pub mod Calls
+pub mod Definitions
+pub mod Fronts
 pub mod Lines
 pub mod Naming
-pub mod Numerals
 pub mod Telling
+pub mod Words

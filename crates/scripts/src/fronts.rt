@@ -1,52 +1,40 @@
 // What stands in a row of words, one thing behind the other, each of some words.
-ghost use Rattle.std.specs.Prelude.{◌<◌, ◌≤◌, length, IfOk};
+ghost use Rattle.std.specs.Prelude.{◌≡◌, ℕ, ◌<◌, ◌≤◌, List, Option, length, drop, IfOk};
+ghost use Rattle.scripts.specs.Words.{Word, Reads, ReadsAs};
+ghost use Rattle.scripts.specs.Fronts.{all as all_said};
 
 use crate::not_done::NotDone;
-use std::marker::PhantomData;
+use std::alloc::Global;
 
 // What some words say that stand in front of others.
-pub(crate) trait Front: Sized {
-    // What the words begin with, and how many words that is.
+pub(crate) trait Front: Copy {
+    // What words begin with, and how many words that is, if they say one.
+    ghost said: { List Word → Option (Self × ℕ) };
+
     fn front(words: &[&str]) -> Result<(Self, usize), NotDone>
-        ensures { IfOk result (λ p. (0 < p.1) × (p.1 ≤ length words.now)) };
+        ensures reads { Reads (said words.now) result }
+        ensures within { IfOk result (λ p. (0 < p.1) × (p.1 ≤ length words.now)) };
 }
 
-// Goes through words. Behind a word that cannot be read it goes on with the next.
-#[derive(Drop)]
-pub(crate) struct Fronts<'a, 'b, T> {
-    words: &'a [&'b str],
-    of: PhantomData<T>,
+// The words behind so many.
+fn skip<'a, 'b>(words: &'a [&'b str], n: usize) -> &'a [&'b str]
+    requires { n ≤ length words.now }
+    ensures { result.now ≡ drop n words.now }
+{
+    &words[n..]
 }
 
-impl<'a, 'b, T: Front> Fronts<'a, 'b, T> {
-    pub(crate) fn over(words: &'a [&'b str]) -> Fronts<'a, 'b, T> {
-        Fronts {
-            words,
-            of: PhantomData,
-        }
+// All that words say, one thing behind the other.
+#[tactic(auto, using(crate::proofs::Rows::one_more, crate::proofs::Rows::stops, crate::proofs::Rows::at_end))]
+pub(crate) fn all<T: Front>(alloc: Global, words: &[&str]) -> Result<Vec<T>, NotDone>
+    ensures { ReadsAs (λ v. v.items) (all_said T.said words.now) result }
+{
+    let mut all = Vec::new(alloc);
+    let mut rest = words;
+    while !rest.is_empty() {
+        let (front, taken) = T::front(rest)?;
+        all.push(front)?;
+        rest = skip(rest, taken);
     }
-}
-
-impl<'a, 'b, T: Front> Iterator for Fronts<'a, 'b, T> {
-    type Item = Result<T, NotDone>;
-
-    ghost use Rattle.std.specs.Iterator.{at_most};
-
-    ghost remaining = { λ s. at_most (length s.words.now) };
-
-    fn next(&mut self) -> Option<Result<T, NotDone>> {
-        if self.words.is_empty() {
-            return None;
-        }
-        match T::front(self.words) {
-            Ok((front, taken)) => {
-                self.words = &self.words[taken..];
-                Some(Ok(front))
-            }
-            Err(error) => {
-                self.words = &self.words[1..];
-                Some(Err(error))
-            }
-        }
-    }
+    Ok(all)
 }

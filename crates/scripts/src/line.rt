@@ -1,18 +1,20 @@
 //! What a line of a script says.
-ghost use Rattle.std.specs.Prelude.{◌≡◌, true, false, [], Ok, IfOk};
-ghost use Rattle.scripts.specs.declared.line.Line.TheVariants.{Nothing};
-ghost use Rattle.scripts.specs.Lines.{said, says_nothing};
+ghost use Rattle.std.specs.Prelude.{◌≡◌};
+ghost use Rattle.scripts.specs.Words.{ReadsAs};
+ghost use Rattle.scripts.specs.Calls.{seen_call, call_said, alone as alone_said};
+ghost use Rattle.scripts.specs.Lines.{said, seen_line, line_said, other_line, ReadsLine, ReadsText};
 
-use crate::definitions::{compute_pipeline, layout, render_pipeline, scratch};
+use crate::definitions::{
+    compute_pipeline, layout, list_bytes, null_target, render_pipeline, scratch,
+};
 use crate::not_done::NotDone;
 use crate::outside::{
     begin_compute_pass, begin_render_pass, transition_buffers, transition_textures,
 };
 use crate::within::{
-    dispatch, dispatch_indirect, draw, draw_indirect, set_bind_group, set_immediates,
-    set_scissor_rect, set_vertex_buffer, set_viewport,
+    dispatch, dispatch_indirect, draw, draw_indirect, set_bind_group, set_compute_pipeline,
+    set_immediates, set_render_pipeline, set_scissor_rect, set_vertex_buffer, set_viewport,
 };
-use crate::words::number;
 use bindings::binding::BufferBinding;
 use bindings::rect::Rect;
 use encoder::attachment::ColorAttachment;
@@ -119,7 +121,9 @@ pub enum Line {
 }
 
 // A call with no operands.
-fn alone(operands: &[&str], call: OwnedCall) -> Result<OwnedCall, NotDone> {
+fn alone(operands: &[&str], call: OwnedCall) -> Result<OwnedCall, NotDone>
+    ensures { ReadsAs seen_call (alone_said (seen_call call) operands.now) result }
+{
     if operands.is_empty() {
         Ok(call)
     } else {
@@ -127,15 +131,9 @@ fn alone(operands: &[&str], call: OwnedCall) -> Result<OwnedCall, NotDone> {
     }
 }
 
-// The one operand of a line.
-fn only<'a>(operands: &[&'a str]) -> Result<&'a str, NotDone> {
-    match operands {
-        [word] => Ok(word),
-        _ => Err(NotDone::BadLine),
-    }
-}
-
-fn read_call(alloc: Global, verb: &str, operands: &[&str]) -> Result<OwnedCall, NotDone> {
+fn read_call(alloc: Global, verb: &str, operands: &[&str]) -> Result<OwnedCall, NotDone>
+    ensures { ReadsAs seen_call (call_said verb.entry operands.now) result }
+{
     match verb {
         "begin_encoding" => alone(operands, OwnedCall::BeginEncoding),
         "end_encoding" => alone(operands, OwnedCall::EndEncoding),
@@ -144,18 +142,12 @@ fn read_call(alloc: Global, verb: &str, operands: &[&str]) -> Result<OwnedCall, 
         "transition_textures" => transition_textures(alloc, operands),
         "begin_render_pass" => begin_render_pass(alloc, operands),
         "end_render_pass" => alone(operands, OwnedCall::EndRenderPass),
-        "begin_compute_pass" => begin_compute_pass(alloc, only(operands)?),
+        "begin_compute_pass" => begin_compute_pass(alloc, operands),
         "end_compute_pass" => alone(operands, OwnedCall::EndComputePass),
         "set_bind_group" => set_bind_group(alloc, operands),
         "set_immediates" => set_immediates(alloc, operands),
-        "set_render_pipeline" => {
-            let name = String::from_str(alloc, only(operands)?)?;
-            Ok(OwnedCall::SetRenderPipeline(name))
-        }
-        "set_compute_pipeline" => {
-            let name = String::from_str(alloc, only(operands)?)?;
-            Ok(OwnedCall::SetComputePipeline(name))
-        }
+        "set_render_pipeline" => set_render_pipeline(alloc, operands),
+        "set_compute_pipeline" => set_compute_pipeline(alloc, operands),
         "set_vertex_buffer" => set_vertex_buffer(operands),
         "set_viewport" => set_viewport(operands),
         "set_scissor_rect" => set_scissor_rect(operands),
@@ -167,17 +159,29 @@ fn read_call(alloc: Global, verb: &str, operands: &[&str]) -> Result<OwnedCall, 
     }
 }
 
-fn read_words(alloc: Global, verb: &str, operands: &[&str]) -> Result<Line, NotDone>
-    ensures { IfOk result (λ l. says_nothing l ≡ false) }
+// A line that is no layout.
+fn read_other(alloc: Global, verb: &str, operands: &[&str]) -> Result<Line, NotDone>
+    ensures { ReadsAs seen_line (other_line verb.entry operands.now) result }
 {
     match verb {
-        "layout" => layout(alloc, operands),
         "render_pipeline" => render_pipeline(alloc, operands),
         "compute_pipeline" => compute_pipeline(alloc, operands),
-        "null_target" => Ok(Line::NullTarget(number(only(operands)?)?)),
-        "list_bytes" => Ok(Line::ListBytes(number(only(operands)?)?)),
+        "null_target" => null_target(operands),
+        "list_bytes" => list_bytes(operands),
         "scratch" => scratch(operands),
         _ => Ok(Line::Call(read_call(alloc, verb, operands)?)),
+    }
+}
+
+fn read_words(alloc: Global, words: &[&str]) -> Result<Line, NotDone>
+    ensures { ReadsLine (line_said words.now) result }
+{
+    let [verb, operands @ ..] = words else {
+        return Err(NotDone::BadLine);
+    };
+    match *verb {
+        "layout" => layout(alloc, operands),
+        _ => read_other(alloc, verb, operands),
     }
 }
 
@@ -194,16 +198,12 @@ pub fn bare(text: &str) -> &str
 ///
 /// Refused with 1: a layout with a group at an index of 8 or more.
 pub fn read(alloc: Global, text: &str) -> Result<Line, NotDone>
-    ensures empty { said text.now ≡ [] → result ≡ Ok Nothing }
-    ensures words { IfOk result (λ l. says_nothing l ≡ true → said text.now ≡ []) }
+    ensures { ReadsText (said text.now) result }
 {
     let bare = bare(text);
     if bare.is_empty() {
         return Ok(Line::Nothing);
     }
     let words: Vec<&str> = bare.split_whitespace().collect(alloc)?;
-    match words.as_slice() {
-        [] => Err(NotDone::BadLine),
-        [verb, operands @ ..] => read_words(alloc, verb, operands),
-    }
+    read_words(alloc, words.as_slice())
 }

@@ -1,10 +1,9 @@
 //! The words of a line, and the numbers that they say.
-ghost use Rattle.std.specs.Prelude.{◌≡◌, ℕ, List, ◌++◌, codes, ◌≤◌};
-ghost use Rattle.scripts.specs.Numerals.{IsRead};
+ghost use Rattle.std.specs.Prelude.{◌≡◌, ◌≤◌, option_map};
+ghost use Rattle.scripts.specs.Words.{IsRead, number as number_said, label as label_said, Reads, ReadsAs};
 
 use crate::not_done::NotDone;
 use std::alloc::Global;
-use std::num::TryFromIntError;
 
 // The number of digits alone, with no sign, if it has 64 bits.
 fn digits_value(digits: &str, radix: u32) -> Option<u64>
@@ -18,11 +17,10 @@ fn digits_value(digits: &str, radix: u32) -> Option<u64>
     u64::from_str_radix(digits, radix).ok()
 }
 
-// The number that a word says: decimal, or in hex behind 0x.
+// The number of 64 bits that a word says: decimal, or in hex behind 0x.
+#[tactic(auto, using(crate::proofs::Numerals::read_digits), unfolding(crate::specs::Words::number))]
 fn whole(word: &str) -> Option<u64>
-    ensures hex { (ds : List ℕ) → word.now ≡ codes "0x" ++ ds → IsRead 16 ds result }
-    ensures decimal { ((ds : List ℕ) → word.now ≡ codes "0x" ++ ds → ⊥)
-        → IsRead 10 word.now result }
+    ensures { result ≡ number_said 64 word.now }
 {
     match word.strip_prefix("0x") {
         Some(digits) => digits_value(digits, 16),
@@ -30,27 +28,36 @@ fn whole(word: &str) -> Option<u64>
     }
 }
 
-// The number that a word says, if it fits its type.
-pub(crate) fn number<N: TryFrom<u64, Error = TryFromIntError>>(word: &str) -> Result<N, NotDone> {
-    whole(word)
-        .and_then(|n| N::try_from(n).ok())
-        .ok_or(NotDone::BadLine)
+// The number of 64 bits that a word says.
+pub(crate) fn wide(word: &str) -> Result<u64, NotDone>
+    ensures { Reads (number_said 64 word.now) result }
+{
+    whole(word).ok_or(NotDone::BadLine)
 }
 
-// As many numbers as are wanted, and no other word.
-pub(crate) fn numbers<const N: usize>(words: &[&str]) -> Result<[u32; N], NotDone> {
-    if words.len() != N {
-        return Err(NotDone::BadLine);
+// The number of 32 bits that a word says.
+#[tactic(auto, using(crate::proofs::Numerals::narrow))]
+pub(crate) fn number(word: &str) -> Result<u32, NotDone>
+    ensures { Reads (number_said 32 word.now) result }
+{
+    match u32::try_from(wide(word)?) {
+        Ok(number) => Ok(number),
+        Err(_) => Err(NotDone::BadLine),
     }
-    let mut all = [0; N];
-    for (place, word) in all.iter_mut().zip(words.iter()) {
-        *place = number(word)?;
-    }
-    Ok(all)
+}
+
+// The number of 64 bits that a word says, as a count.
+pub(crate) fn count(word: &str) -> Result<usize, NotDone>
+    ensures { Reads (number_said 64 word.now) result }
+{
+    let number = wide(word)?;
+    Ok(number as usize)
 }
 
 // A label: none, the empty one, or its bytes in hex.
-pub(crate) fn label(alloc: Global, word: &str) -> Result<Option<Vec<u8>>, NotDone> {
+pub(crate) fn label(alloc: Global, word: &str) -> Result<Option<Vec<u8>>, NotDone>
+    ensures { ReadsAs (option_map (λ v. v.items)) (label_said word.now) result }
+{
     match word {
         "-" => Ok(None),
         "empty" => Ok(Some(Vec::new(alloc))),
