@@ -38,6 +38,7 @@ no_layout (verb ∷ os) d r h k m =
 -- a text that has a byte is read by its words
 pub reads_text : (bs : List ℕ) (ws : List Word) (r : Result Line NotDone) → (bs ≡ [] → ⊥)
     → AreWords bs ws → ReadsLine (line_said ws) r → ReadsText bs r
+unfolding ReadsText
 reads_text [] ws r h a k = elim (h refl) [ ]
 reads_text (b ∷ bs) ws (Ok l) h a k = (ws, (a, k))
 reads_text (b ∷ bs) ws (Err (Memory e)) h a k = tt

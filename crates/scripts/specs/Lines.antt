@@ -116,7 +116,7 @@ ReadsLine r (Err (Memory e)) = Unit {0}
 ReadsLine r (Err e) = r ≡ Err e
 
 -- what is read of a text: nothing of an empty one, else what its words say
-abbrev pub ReadsText : List ℕ → Result Line NotDone → Type 0
+unfoldable pub ReadsText : List ℕ → Result Line NotDone → Type 0
 ReadsText [] r = r ≡ Ok line.Nothing
 ReadsText (b ∷ bs) (Err (Memory e)) = Unit {0}
 ReadsText (b ∷ bs) r = (ws : List Word) × (AreWords (b ∷ bs) ws × ReadsLine (line_said ws) r)

@@ -197,6 +197,7 @@ pub fn bare(text: &str) -> &str
 /// What a line says: nothing exactly where it is bare of words. docs/SCRIPT.md has all lines.
 ///
 /// Refused with 1: a layout with a group at an index of 8 or more.
+#[tactic(auto, unfolding(crate::specs::Lines::ReadsText))]
 pub fn read(alloc: Global, text: &str) -> Result<Line, NotDone>
     ensures { ReadsText (said text.now) result }
 {
