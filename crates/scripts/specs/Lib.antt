@@ -1,4 +1,5 @@
 pub mod Lines
 pub mod Naming
 pub mod Numerals
+pub mod Shown
 pub mod Telling

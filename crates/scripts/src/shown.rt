@@ -1,6 +1,13 @@
 //! What is printed: a record of a list, and the record of a pass.
+ghost use Rattle.std.specs.Prelude.{Some};
+ghost use Rattle.std.specs.Fmt.{DisplaysOnOk};
+ghost use Rattle.command_list.specs.Commands.{fields, entry, BeginEvent, OMSetRenderTargets};
+ghost use Rattle.command_list.specs.Commands.{ResourceBarrier};
+ghost use Rattle.command_list.specs.Seen.{fixed_command, every, entries_of};
+ghost use Rattle.scripts.specs.Shown.{operands};
+
 use command_list::command::{Barrier, Fixed, Half};
-use command_list::record::Record;
+use command_list::record::{Entries, Handles, Record, Units};
 use list_writer::writer::Recordable;
 use passes::element::RootElement;
 use passes::roots::RootState;
@@ -13,35 +20,71 @@ use std::fmt;
 pub struct ShownRecord<'a>(pub Record<'a>);
 
 impl fmt::Display for ShownRecord<'_> {
+    ghost use Rattle.std.specs.Prelude.{Some};
+    ghost use Rattle.command_list.specs.Seen.{command_of};
+    ghost use Rattle.scripts.specs.Shown.{shown_command};
+
+    ghost output = { λ shown. Some (shown_command (command_of shown.0)) };
+
     fn fmt<W: fmt::Write>(&self, f: &mut fmt::Formatter<W>) -> fmt::Result {
         let ShownRecord(record) = *self;
         let code = u8::from(record.code());
         write!(f, "{code}")?;
         match record {
-            Record::BeginEvent(units) => {
-                for unit in (0..units.len()).filter_map(|i| units.get(i)) {
-                    write!(f, " {unit}")?;
-                }
-            }
-            Record::OMSetRenderTargets(handles) => {
-                let count = handles.len();
-                write!(f, " {count}")?;
-                for handle in (0..count).filter_map(|i| handles.get(i)) {
-                    write!(f, " {handle}")?;
-                }
-            }
-            Record::ResourceBarrier(entries) => {
-                for entry in (0..entries.len()).filter_map(|i| entries.get(i)) {
-                    barrier_to(entry, f)?;
-                }
-            }
-            Record::Fixed(fixed) => fixed_to(fixed, f)?,
+            Record::BeginEvent(units) => units_to(units, f),
+            Record::OMSetRenderTargets(handles) => handles_to(handles, f),
+            Record::ResourceBarrier(entries) => entries_to(entries, f),
+            Record::Fixed(fixed) => fixed_to(fixed, f),
         }
-        Ok(())
     }
 }
 
-fn barrier_to<W: fmt::Write>(barrier: Barrier, f: &mut fmt::Formatter<W>) -> fmt::Result {
+fn units_to<W: fmt::Write>(units: Units, f: &mut fmt::Formatter<W>) -> fmt::Result
+    ensures { DisplaysOnOk W.write_str_gives f.old result
+        (Some (operands (fields (BeginEvent (every 2 units.entry.bytes.now))))) f.new }
+{
+    for i in 0..units.len() {
+        if let Some(unit) = units.get(i) {
+            write!(f, " {unit}")?;
+        }
+    }
+    Ok(())
+}
+
+// How many handles there are, and the handles.
+fn handles_to<W: fmt::Write>(handles: Handles, f: &mut fmt::Formatter<W>) -> fmt::Result
+    ensures { DisplaysOnOk W.write_str_gives f.old result
+        (Some (operands (fields (OMSetRenderTargets (every 8 handles.entry.bytes.now))))) f.new }
+{
+    let count = handles.len();
+    write!(f, " {count}")?;
+    for i in 0..count {
+        if let Some(handle) = handles.get(i) {
+            write!(f, " {handle}")?;
+        }
+    }
+    Ok(())
+}
+
+// Entries, none if the type of one is not known.
+fn entries_to<W: fmt::Write>(entries: Entries, f: &mut fmt::Formatter<W>) -> fmt::Result
+    ensures { DisplaysOnOk W.write_str_gives f.old result
+        (Some (operands (fields (ResourceBarrier (entries_of entries.entry.bytes.now))))) f.new }
+{
+    if !entries.known() {
+        return Ok(());
+    }
+    for i in 0..entries.len() {
+        if let Some(entry) = entries.get(i) {
+            barrier_to(entry, f)?;
+        }
+    }
+    Ok(())
+}
+
+fn barrier_to<W: fmt::Write>(barrier: Barrier, f: &mut fmt::Formatter<W>) -> fmt::Result
+    ensures { DisplaysOnOk W.write_str_gives f.old result (Some (operands (entry barrier))) f.new }
+{
     let Barrier {
         kind,
         resource,
@@ -53,21 +96,20 @@ fn barrier_to<W: fmt::Write>(barrier: Barrier, f: &mut fmt::Formatter<W>) -> fmt
     write!(f, " {kind} {resource} {subresource} {before} {after}")
 }
 
-fn numbers_to<W: fmt::Write>(numbers: &[u32], f: &mut fmt::Formatter<W>) -> fmt::Result {
-    for number in numbers {
-        write!(f, " {number}")?;
-    }
-    Ok(())
-}
-
 // An arm for each command: a table, which is longer than other functions.
-fn fixed_to<W: fmt::Write>(fixed: Fixed, f: &mut fmt::Formatter<W>) -> fmt::Result {
+fn fixed_to<W: fmt::Write>(fixed: Fixed, f: &mut fmt::Formatter<W>) -> fmt::Result
+    ensures { DisplaysOnOk W.write_str_gives f.old result
+        (Some (operands (fields (fixed_command fixed)))) f.new }
+{
     match fixed {
         Fixed::EndEvent => Ok(()),
-        Fixed::SetDescriptorHeaps(on) => numbers_to(&[u32::from(on)], f),
-        Fixed::SetRootSignature { signature, .. } => numbers_to(&[signature], f),
-        Fixed::SetPipelineState(pipeline) => numbers_to(&[pipeline], f),
-        Fixed::IASetPrimitiveTopology(topology) => numbers_to(&[topology], f),
+        Fixed::SetDescriptorHeaps(on) => {
+            let on = u8::from(on);
+            write!(f, " {on}")
+        }
+        Fixed::SetRootSignature { signature, .. } => write!(f, " {signature}"),
+        Fixed::SetPipelineState(pipeline) => write!(f, " {pipeline}"),
+        Fixed::IASetPrimitiveTopology(topology) => write!(f, " {topology}"),
         Fixed::IASetVertexBuffers {
             slot,
             address,
@@ -85,23 +127,26 @@ fn fixed_to<W: fmt::Write>(fixed: Fixed, f: &mut fmt::Formatter<W>) -> fmt::Resu
             write!(f, " {slot} {address}")
         }
         Fixed::ClearRenderTargetView { target, colour } => {
-            write!(f, " {target}")?;
-            numbers_to(&colour, f)
+            let [red, green, blue, alpha] = colour;
+            write!(f, " {target} {red} {green} {blue} {alpha}")
         }
-        Fixed::RSSetViewports(viewport) => numbers_to(&viewport, f),
+        Fixed::RSSetViewports(viewport) => {
+            let [x, y, width, height, least, greatest] = viewport;
+            write!(f, " {x} {y} {width} {height} {least} {greatest}")
+        }
         Fixed::RSSetScissorRects {
             left,
             top,
             right,
             bottom,
-        } => numbers_to(&[left, top, right, bottom], f),
+        } => write!(f, " {left} {top} {right} {bottom}"),
         Fixed::DrawInstanced {
             vertices,
             instances,
             first_vertex,
             first_instance,
-        } => numbers_to(&[vertices, instances, first_vertex, first_instance], f),
-        Fixed::Dispatch { x, y, z } => numbers_to(&[x, y, z], f),
+        } => write!(f, " {vertices} {instances} {first_vertex} {first_instance}"),
+        Fixed::Dispatch { x, y, z } => write!(f, " {x} {y} {z}"),
         Fixed::ExecuteIndirect {
             half,
             special,
