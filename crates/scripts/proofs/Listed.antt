@@ -11,7 +11,7 @@ use Rattle.command_list.specs.Numbers.{Field}
 use Rattle.scripts.specs.Shown.{operands}
 
 -- the operands of a list's first rows, and of one more
-pub one_more : {X : Type 0} (row : X → List Field) (xs : List X) (i : ℕ) (x : X)
+one_more : {X : Type 0} (row : X → List Field) (xs : List X) (i : ℕ) (x : X)
     → slice_get xs i ≡ Some x
     → operands (flat_map row (take i xs)) ++ operands (row x)
     ≡ operands (flat_map row (take (i + 1) xs))
