@@ -1,4 +1,6 @@
 mod Folds
+mod Listed
 mod Numerals
 mod Others
 mod Rows
+mod Slots
