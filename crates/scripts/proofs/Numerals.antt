@@ -1,9 +1,9 @@
 -- Numerals of a radix: std's relation, and the definition of words.
-use Rattle.std.proofs.Common.{◌≡◌, ℕ, ◌^◌, ◌<◌, ◌≤◌, Bool, true, false, ◌&&◌, List, [], ◌∷◌, length, option_and_then, take, drop, codes, Option, Some, None, nat_lt, nat_le, arith, refl, ap, sym, rules, if◌then◌else◌}
+use Rattle.std.proofs.Common.{◌≡◌, ℕ, ◌^◌, Bool, true, false, List, [], ◌∷◌, option_and_then, take, drop, codes, Option, Some, None, nat_lt, arith, refl}
 use Rattle.std.proofs.lemmas.Grind.{common_steps}
 use Rattle.std.specs.List.{list_all}
-use Rattle.std.specs.Char.{is_digit, digit_value}
-use Rattle.std.specs.Str.Parse.{AllDigits, IsNumeral, digits_value}
+use Rattle.std.specs.Char.{is_digit}
+use Rattle.std.specs.Str.Parse.{AllDigits, digits_value}
 use Rattle.scripts.specs.Words.{is_numeral, fitting, numeral, number, IsRead}
 use Rattle.std.specs.Str.{bytes_eq}
 

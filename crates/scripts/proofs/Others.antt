@@ -1,5 +1,5 @@
 -- A word that is not the one asked for, and lines that are no layouts.
-use Rattle.std.proofs.Common.{◌≡◌, ℕ, Bool, true, false, List, Option, Some, None, Ok, Err, Result, ok_or, refl, ap, sym, [], ◌∷◌, ◌≤◌, ◌-◌, length, get_or, take, drop, codes, arith}
+use Rattle.std.proofs.Common.{◌≡◌, ℕ, Bool, true, false, List, Option, Ok, Err, Result, ok_or, refl, [], ◌∷◌, ◌≤◌, ◌-◌, length, get_or, take, drop, codes, arith}
 use Rattle.std.proofs.lemmas.Grind.{common_steps}
 use Rattle.std.specs.Str.{bytes_eq}
 use Rattle.std.proofs.lemmas.Slice.Eq.{bytes_eq-Decides}

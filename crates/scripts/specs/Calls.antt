@@ -1,6 +1,5 @@
 -- What the words of a call say.
 use Rattle.std.specs.Prelude.{ℕ, List, [], ◌∷◌, map, Option, Some, None, option_map, if◌then◌else◌, codes, string_bytes}
-use Rattle.std.specs.Str.{bytes_eq}
 use Rattle.bindings.specs.declared.binding.BufferBinding.{BufferBinding}
 use Rattle.bindings.specs.declared.rect.Rect.{Rect}
 use Rattle.resources.specs.declared.barrier.ResourceBarrier.{ResourceBarrier}

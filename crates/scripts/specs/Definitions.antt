@@ -1,5 +1,5 @@
 -- What the words of a definition say.
-use Rattle.std.specs.Prelude.{ℕ, Bool, true, false, ◌&&◌, List, [], ◌∷◌, replicate, slice_set, Option, Some, None, Ok, Err, Result, if◌then◌else◌, nat_lt, codes}
+use Rattle.std.specs.Prelude.{ℕ, Bool, true, false, ◌&&◌, List, [], ◌∷◌, replicate, slice_set, Option, Some, None, if◌then◌else◌, nat_lt, codes}
 use Rattle.std.specs.List.{slice_get}
 use Rattle.layouts.specs.declared.info.BindGroupInfo.{BindGroupInfo}
 use Rattle.scripts.specs.declared.definitions.Part.{Part}

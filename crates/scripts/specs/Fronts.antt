@@ -1,5 +1,5 @@
 -- What a row of words says, one thing behind the other.
-use Rattle.std.specs.Prelude.{ℕ, suc, zero, ◌-◌, List, [], ◌∷◌, Option, Some, None}
+use Rattle.std.specs.Prelude.{ℕ, suc, zero, ◌-◌, List, [], ◌∷◌, Option, Some}
 use Rattle.scripts.specs.Words.{Word, ◌>>=◌}
 
 -- what words begin with, and how many words that is, if they say one

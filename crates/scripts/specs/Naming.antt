@@ -13,7 +13,7 @@ use Rattle.scripts.specs.declared.line.LayoutParts.{LayoutParts}
 use Rattle.scripts.specs.declared.line.RenderParts.{RenderParts}
 use Rattle.scripts.specs.declared.line.ComputeParts.{ComputeParts}
 use Rattle.scripts.specs.declared.not_done.NotDone.{NotDone}
-use Rattle.scripts.specs.declared.not_done.NotDone.TheVariants.{BadLine, Unknown, NotOffered, Refused, Memory}
+use Rattle.scripts.specs.declared.not_done.NotDone.TheVariants.{Unknown, Refused, Memory}
 
 -- names of one kind, and what they stand for
 abbrev pub Defined : Type 0 → Type 0 → Type 0
@@ -39,20 +39,12 @@ render_of p l =
 abbrev pub compute_of : ComputeParts → PipelineLayout → ComputePipeline
 compute_of p l = record { handle = p.handle; layout = l }
 
--- the name stands for a pipeline of these parts, over the layout that their name for it stands for
-abbrev pub DefinesRenderPipeline : {Y : Type 0} → List ℕ → RenderParts → Defined Y PipelineLayout
-    → Defined Y RenderPipeline → Defined Y RenderPipeline → Type 0
-DefinesRenderPipeline name p layouts old new =
+-- the name stands for a pipeline over the layout that the layout's name stands for
+abbrev pub DefinesPipeline : {X Y : Type 0} → (PipelineLayout → X) → List ℕ → List ℕ
+    → Defined Y PipelineLayout → Defined Y X → Defined Y X → Type 0
+DefinesPipeline made layout name layouts old new =
     (l : PipelineLayout)
-    × ((get_by_text layouts (string_bytes p.layout) ≡ Some l)
-    × Defines name (render_of p l) old new)
-
-abbrev pub DefinesComputePipeline : {Y : Type 0} → List ℕ → ComputeParts → Defined Y PipelineLayout
-    → Defined Y ComputePipeline → Defined Y ComputePipeline → Type 0
-DefinesComputePipeline name p layouts old new =
-    (l : PipelineLayout)
-    × ((get_by_text layouts (string_bytes p.layout) ≡ Some l)
-    × Defines name (compute_of p l) old new)
+    × ((get_by_text layouts layout ≡ Some l) × Defines name (made l) old new)
 
 -- every name stands for what it stood for
 abbrev pub Keeps : {X Y : Type 0} → Defined Y X → Defined Y X → Type 0

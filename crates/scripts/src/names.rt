@@ -32,7 +32,7 @@ fn named<T: Copy>(alloc: Global, defined: &BTreeMap<String, T>, name: &str) -> R
 
 impl Names {
     ghost use Rattle.scripts.specs.Naming.{told, verdict_of, Keeps, DefinesLayout};
-    ghost use Rattle.scripts.specs.Naming.{DefinesRenderPipeline, DefinesComputePipeline};
+    ghost use Rattle.scripts.specs.Naming.{DefinesPipeline, render_of, compute_of};
 
     /// No name is defined.
     pub fn new(alloc: Global) -> Names
@@ -95,7 +95,8 @@ impl Names {
     ) -> Result<(), NotDone>
         ensures kept { OnErr result (Keeps self.old.render_pipelines self.new.render_pipelines) }
         ensures refused { IfErr result (Unfound self.old.layouts (string_bytes parts.now.layout)) }
-        ensures defined { OnOk result (DefinesRenderPipeline (string_bytes name) parts.now
+        ensures defined { OnOk result (DefinesPipeline (render_of parts.now)
+            (string_bytes parts.now.layout) (string_bytes name)
             self.old.layouts self.old.render_pipelines self.new.render_pipelines) }
     {
         let pipeline = RenderPipeline {
@@ -116,7 +117,8 @@ impl Names {
     ) -> Result<(), NotDone>
         ensures kept { OnErr result (Keeps self.old.compute_pipelines self.new.compute_pipelines) }
         ensures refused { IfErr result (Unfound self.old.layouts (string_bytes parts.now.layout)) }
-        ensures defined { OnOk result (DefinesComputePipeline (string_bytes name) parts.now
+        ensures defined { OnOk result (DefinesPipeline (compute_of parts.now)
+            (string_bytes parts.now.layout) (string_bytes name)
             self.old.layouts self.old.compute_pipelines self.new.compute_pipelines) }
     {
         let pipeline = ComputePipeline {

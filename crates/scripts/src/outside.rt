@@ -23,12 +23,10 @@ impl Front for BufferBarrier {
         let [resource, from, to, ..] = words else {
             return Err(NotDone::BadLine);
         };
-        let resource = number(resource)?;
+        let (resource, from, to) = (number(resource)?, number(from)?, number(to)?);
         let usage = StateTransition {
-            from: BufferUses {
-                bits: number(from)?,
-            },
-            to: BufferUses { bits: number(to)? },
+            from: BufferUses { bits: from },
+            to: BufferUses { bits: to },
         };
         Ok((ResourceBarrier { resource, usage }, 3))
     }
@@ -42,12 +40,10 @@ impl Front for TextureBarrier {
         let [resource, from, to, ..] = words else {
             return Err(NotDone::BadLine);
         };
-        let resource = number(resource)?;
+        let (resource, from, to) = (number(resource)?, number(from)?, number(to)?);
         let usage = StateTransition {
-            from: TextureUses {
-                bits: number(from)?,
-            },
-            to: TextureUses { bits: number(to)? },
+            from: TextureUses { bits: from },
+            to: TextureUses { bits: to },
         };
         Ok((ResourceBarrier { resource, usage }, 3))
     }

@@ -1,7 +1,6 @@
-use Rattle.std.proofs.Common.{arith, rules, refl, sym, ◌∙◌, ◌≡◌, [], ap, subst, List, ℕ}
+use Rattle.std.proofs.Common.{arith, rules, ◌∙◌, ◌≡◌, []}
 use Rattle.std.proofs.lemmas.Grind.{common_steps}
-use Rattle.scripts.specs.Words.{Word}
-use Rattle.scripts.specs.Lines.{said, line_said, AreWords, ReadsLine}
+use Rattle.scripts.specs.Lines.{said, AreWords}
 use Rattle.scripts.proofs.Others.{reads_text}
 use Rattle.scripts.proofs.line.read.Goals as goal
 

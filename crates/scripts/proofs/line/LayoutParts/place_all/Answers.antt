@@ -1,7 +1,5 @@
-use Rattle.std.proofs.Common.{arith, rules, refl, sym, ◌∙◌, ◌≡◌, ◌<◌, length}
-use Rattle.std.proofs.lemmas.Grind.{common_steps}
-use Rattle.scripts.specs.Definitions.{place_all}
-use Rattle.scripts.proofs.Folds.{all_placed, place_fails, place_more, with}
+use Rattle.std.proofs.Common.{rules}
+use Rattle.scripts.proofs.Folds.{all_placed, place_fails, place_more}
 use Rattle.scripts.proofs.line.LayoutParts.place_all.Goals as goal
 
 pub returns-in_err-in_range : goal.returns-in_err-in_range
