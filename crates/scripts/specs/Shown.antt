@@ -37,7 +37,7 @@ abbrev pub size_at : ℕ → Option ImmediatesInfo → ℕ
 size_at slot None = 0
 size_at slot (Some i) = if i.root_index == slot then i.size else 0
 
--- how many words that are in the current layout
+-- the same of the current layout, none if there is none
 abbrev pub count_at : ℕ → Option PipelineLayout → ℕ
 count_at slot None = 0
 count_at slot (Some l) = size_at slot l.immediates_info
