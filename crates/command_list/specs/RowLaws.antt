@@ -126,6 +126,11 @@ some_then : {A B : Type 0} (o : Option A) (f : A → B)
 some_then None f = refl
 some_then (Some a) f = refl
 
+-- an entry is one where its type is known
+pub entry_typed : (at : ℕ) (bs : List ℕ)
+    → is_some (type_of (number_at 1 at bs)) ≡ is_some (entry_at at bs)
+entry_typed at bs = sym (some_then (type_of (number_at 1 at bs)) _)
+
 some_both : {A B C : Type 0} (o : Option A) (p : Option B) (f : A → B → C)
     → is_some (then o (λ a. then p (λ b. Some (f a b)))) ≡ (is_some o && is_some p)
 some_both None p f = refl

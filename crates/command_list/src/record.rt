@@ -61,6 +61,6 @@ impl<'a, T: Row> Rows<'a, T> {
     pub fn known(&self) -> bool
         ensures { result ≡ is_some (T.rows self.now.bytes.now) }
     {
-        (0..self.len()).all(|i| self.get(i).is_some())
+        T::are_rows(self.bytes)
     }
 }

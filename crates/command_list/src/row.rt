@@ -27,6 +27,13 @@ pub trait Row: Copy {
         ensures { result
             ≡ (if nat_le (at + WIDTH) (length bytes.now) then row_at at bytes.now else None) };
 
+    /// Whether each of the rows of some bytes is one.
+    fn are_rows(bytes: &[u8]) -> bool
+        ensures { result ≡ is_some (rows bytes.now) }
+    {
+        (0..bytes.len() / Self::WIDTH).all(|i| Self::read(bytes, Self::WIDTH * i).is_some())
+    }
+
     ghost some: { 0 < WIDTH };
 
     // as many rows as there is room for whole ones
@@ -68,6 +75,10 @@ impl Row for u16 {
         holds(bytes, at, u16::WIDTH).then(|| Wide::get(bytes, at))
     }
 
+    fn are_rows(_units: &[u8]) -> bool {
+        true
+    }
+
     ghost some = { Prim.search rules };
 
     ghost counted = { count_every 2 };
@@ -94,6 +105,10 @@ impl Row for u64 {
 
     fn read(bytes: &[u8], at: usize) -> Option<u64> {
         holds(bytes, at, u64::WIDTH).then(|| Wide::get(bytes, at))
+    }
+
+    fn are_rows(_handles: &[u8]) -> bool {
+        true
     }
 
     ghost some = { Prim.search rules };
@@ -134,6 +149,12 @@ impl Row for Barrier {
             before: Wide::get(bytes, at + 9),
             after: Wide::get(bytes, at + 13),
         })
+    }
+
+    // Only the byte of each entry's type is looked at.
+    fn are_rows(bytes: &[u8]) -> bool {
+        (0..bytes.len() / Barrier::WIDTH)
+            .all(|i| BarrierType::try_from(u8::get(bytes, Barrier::WIDTH * i)).is_ok())
     }
 
     ghost some = { Prim.search rules };

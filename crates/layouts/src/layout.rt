@@ -1,5 +1,5 @@
 //! The layout of a pipeline's root slots.
-ghost use Rattle.std.specs.Prelude.{◌≡◌, ℕ, true, IfOk, Decides};
+ghost use Rattle.std.specs.Prelude.{◌≡◌, ℕ, ◌≤◌, true, None, IfOk, Decides};
 ghost use Rattle.command_list.specs.Bits.{bit};
 ghost use Rattle.command_list.specs.Refusals.{fault_of};
 ghost use Rattle.layouts.specs.Owners.{sound, owner_of, owned, is_table, is_uniform, verdict};
@@ -123,7 +123,8 @@ impl PipelineLayout {
 
     /// The group at an index, if the layout has one there. There is none from index 8 on.
     pub fn group(&self, index: u32) -> Option<BindGroupInfo>
-        ensures { result ≡ group_in self.now index }
+        ensures there { result ≡ group_in self.now index }
+        ensures past { 8 ≤ index → result ≡ None }
     {
         self.bind_group_infos.get(index as usize).copied().flatten()
     }

@@ -128,6 +128,10 @@ pub trait Listing<T: Entry>: Operands {
     fn count(&self) -> usize
         ensures { result ≡ length (items self.now) };
 
+    /// How many items it has, if it has any. No item is looked at.
+    fn count_if_any(&self) -> usize
+        ensures { 0 < length (items self.now) → result ≡ length (items self.now) };
+
     /// The last item; none of an empty list.
     fn last(&self) -> Option<T>
         ensures { result ≡ slice_get (items self.now) (length (items self.now) - 1) };
@@ -155,6 +159,10 @@ impl<T: Entry> Listing<T> for &[T] {
     ghost items = { λ s. s.now };
 
     fn count(&self) -> usize {
+        self.len()
+    }
+
+    fn count_if_any(&self) -> usize {
         self.len()
     }
 
@@ -194,6 +202,10 @@ impl<T: Entry> Listing<T> for Rows<'_, T> {
 
     fn count(&self) -> usize {
         if self.known() { self.len() } else { 0 }
+    }
+
+    fn count_if_any(&self) -> usize {
+        self.len()
     }
 
     fn last(&self) -> Option<T> {

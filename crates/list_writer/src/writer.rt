@@ -13,7 +13,13 @@ use command_list::fault::{FULL, Fault};
 use command_list::reader::MOST_BYTES;
 use command_list::row::Row;
 
-// The most entries of a resource barrier, since two bytes tell the length of a record.
+// The most units of a label, since two bytes tell the length of a record.
+const MOST_UNITS: usize = 65534 / u16::WIDTH;
+
+// The most targets.
+const MOST_TARGETS: usize = 8;
+
+// The most entries of a resource barrier, as of a label's units.
 const MOST_ENTRIES: usize = 65534 / Barrier::WIDTH;
 
 /// Begins a list with its version byte, and says where it ends. No bytes, or more than a list may
@@ -191,7 +197,7 @@ fn label_size<U: Listing<u16>>(units: &U) -> Result<usize, Fault>
     ensures { Measured (BeginEvent (U.items units.now)) result }
 {
     let n = units.count();
-    if n > 32767 || units.last() != Some(0) {
+    if n > MOST_UNITS || units.last() != Some(0) {
         return Err(FULL);
     }
     Ok(3 + 2 * n)
@@ -202,7 +208,7 @@ fn targets_size<H: Listing<u64>>(handles: &H) -> Result<usize, Fault>
     ensures { Measured (OMSetRenderTargets (H.items handles.now)) result }
 {
     let n = handles.count();
-    if n > 8 {
+    if n > MOST_TARGETS {
         return Err(FULL);
     }
     Ok(4 + 8 * n)
@@ -212,8 +218,8 @@ fn targets_size<H: Listing<u64>>(handles: &H) -> Result<usize, Fault>
 fn barriers_size<E: Listing<Barrier>>(entries: &E) -> Result<usize, Fault>
     ensures { Measured (ResourceBarrier (E.items entries.now)) result }
 {
-    let n = entries.count();
-    if n == 0 || n > MOST_ENTRIES {
+    let n = entries.count_if_any();
+    if n > MOST_ENTRIES || entries.count() == 0 {
         return Err(FULL);
     }
     Ok(3 + Barrier::WIDTH * n)

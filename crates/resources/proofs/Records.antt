@@ -20,6 +20,10 @@ pub records_some : (es : List Barrier) → 0 < length es → transition_records 
 records_some [] h = absurd (omega arith)
 records_some (e ∷ es) h = refl
 
+-- a record's bytes: three of its head, and seventeen for each entry
+pub records_size : (es : List Barrier) → 0 < length es → sizes (transition_records es) ≡ 3 + 17 * length es
+records_size es h = ap sizes (records_some es h) ∙ omega (arith, total_entries entry entry_width (λ e. refl) es)
+
 -- what was put from the fill on is what the guard says was made
 pub made_is : (len was end : ℕ) (es part xs : List Barrier) → (end ≡ was + length es) × (0 < length es → end ≤ len) × (take (end - was) (drop was xs) ≡ es) → length xs ≡ len
     → (was ≤ end → end ≤ length xs → part ≡ take (end - was) (drop was xs)) → (length xs < end → part ≡ [])

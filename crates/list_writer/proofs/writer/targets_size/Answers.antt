@@ -8,6 +8,6 @@ use Rattle.list_writer.proofs.writer.targets_size.Goals as goal
 pub returns : goal.returns
 returns g c =
     let hs = g.H.Listing.items c.args.handles.now in (
-      sym (readable_targets hs) ∙ le-leb (length hs) 8 (omega (arith, c.if-n-gt8.false, c.count-n.ensures)),
+      sym (readable_targets hs) ∙ le-leb (length hs) 8 (omega (arith, c.if-n-gt-MOST_TARGETS.false, c.count-n.ensures)),
       omega (arith, c.count-n.ensures, total_entries handle 8 (λ h. refl) hs),
     )
