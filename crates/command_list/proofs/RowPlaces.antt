@@ -5,7 +5,7 @@ use Rattle.std.specs.List.{list_all, range_with_len}
 use Rattle.command_list.specs.Numbers.{number_at}
 use Rattle.command_list.specs.Commands.{entry_width}
 use Rattle.command_list.specs.Decoding.{type_of, barriers}
-use Rattle.command_list.specs.Seen.{entry_at, entry_numbers}
+use Rattle.command_list.specs.Seen.{entry_numbers}
 use Rattle.command_list.specs.RowLaws.{entry_typed, each_entry}
 use Rattle.std.proofs.lemmas.Bool.{cond-true, cond-false, lt-ltb, le-ltb, le-leb, lt-leb, cases_lt}
 

@@ -53,7 +53,7 @@ impl<'a, T: Row> Rows<'a, T> {
         ensures listed { (xs : List T) → T.rows self.now.bytes.now ≡ Some xs
             → result ≡ slice_get xs i }
     {
-        T::read(self.bytes, T::WIDTH.checked_mul(i)?)
+        T::nth(self.bytes, i)
     }
 
     /// Whether the bytes of each row are one: units and handles always are, entries where their

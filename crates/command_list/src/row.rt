@@ -1,4 +1,4 @@
-ghost use Rattle.std.specs.Prelude.{◌≡◌, ℕ, ◌+◌, ◌*◌, ◌/◌, ◌<◌, ◌≤◌, if◌then◌else◌, nat_le};
+ghost use Rattle.std.specs.Prelude.{◌≡◌, ℕ, ◌+◌, ◌*◌, ◌/◌, ◌<◌, ◌≤◌, if◌then◌else◌, nat_le, nat_lt};
 ghost use Rattle.std.specs.Prelude.{List, length, is_some, Option, Some, None};
 ghost use Rattle.std.specs.List.{slice_get, list_all, range_with_len};
 ghost use Rattle.command_list.specs.Numbers.{number_at};
@@ -26,6 +26,14 @@ pub trait Row: Copy {
     fn read(bytes: &[u8], at: usize) -> Option<Self>
         ensures { result
             ≡ (if nat_le (at + WIDTH) (length bytes.now) then row_at at bytes.now else None) };
+
+    /// Row `i` of some bytes; none past the last one, or where its bytes are no row.
+    fn nth(bytes: &[u8], i: usize) -> Option<Self>
+        ensures { result ≡ (if nat_lt i (length bytes.now / WIDTH)
+            then row_at (WIDTH * i) bytes.now else None) }
+    {
+        Self::read(bytes, Self::WIDTH.checked_mul(i)?)
+    }
 
     /// Whether each of the rows of some bytes is one.
     fn are_rows(bytes: &[u8]) -> bool
@@ -58,6 +66,23 @@ fn holds(bytes: &[u8], at: usize, n: usize) -> bool
     n <= bytes.len() && at <= bytes.len() - n
 }
 
+// The entry at a place, where its type is known.
+fn entry(bytes: &[u8], at: usize) -> Option<Barrier>
+    requires { at + entry_width ≤ length bytes.now }
+    ensures { result ≡ entry_at at bytes.now }
+{
+    let Ok(kind) = BarrierType::try_from(u8::get(bytes, at)) else {
+        return None;
+    };
+    Some(Barrier {
+        kind,
+        resource: Wide::get(bytes, at + 1),
+        subresource: Wide::get(bytes, at + 5),
+        before: Wide::get(bytes, at + 9),
+        after: Wide::get(bytes, at + 13),
+    })
+}
+
 /// The units of a label.
 impl Row for u16 {
     ghost use Rattle.std.proofs.Common.{rules};
@@ -73,6 +98,10 @@ impl Row for u16 {
 
     fn read(bytes: &[u8], at: usize) -> Option<u16> {
         holds(bytes, at, u16::WIDTH).then(|| Wide::get(bytes, at))
+    }
+
+    fn nth(bytes: &[u8], i: usize) -> Option<u16> {
+        (i < bytes.len() / u16::WIDTH).then(|| Wide::get(bytes, u16::WIDTH * i))
     }
 
     fn are_rows(_units: &[u8]) -> bool {
@@ -107,6 +136,10 @@ impl Row for u64 {
         holds(bytes, at, u64::WIDTH).then(|| Wide::get(bytes, at))
     }
 
+    fn nth(bytes: &[u8], i: usize) -> Option<u64> {
+        (i < bytes.len() / u64::WIDTH).then(|| Wide::get(bytes, u64::WIDTH * i))
+    }
+
     fn are_rows(_handles: &[u8]) -> bool {
         true
     }
@@ -136,25 +169,27 @@ impl Row for Barrier {
     ghost rows = { λ bs. barriers (entry_numbers bs) };
 
     fn read(bytes: &[u8], at: usize) -> Option<Barrier> {
-        if !holds(bytes, at, Barrier::WIDTH) {
-            return None;
+        if holds(bytes, at, Barrier::WIDTH) {
+            entry(bytes, at)
+        } else {
+            None
         }
-        let Ok(kind) = BarrierType::try_from(u8::get(bytes, at)) else {
-            return None;
-        };
-        Some(Barrier {
-            kind,
-            resource: Wide::get(bytes, at + 1),
-            subresource: Wide::get(bytes, at + 5),
-            before: Wide::get(bytes, at + 9),
-            after: Wide::get(bytes, at + 13),
-        })
+    }
+
+    fn nth(bytes: &[u8], i: usize) -> Option<Barrier> {
+        if i < bytes.len() / Barrier::WIDTH {
+            entry(bytes, Barrier::WIDTH * i)
+        } else {
+            None
+        }
     }
 
     // Only the byte of each entry's type is looked at.
     fn are_rows(bytes: &[u8]) -> bool {
-        (0..bytes.len() / Barrier::WIDTH)
-            .all(|i| BarrierType::try_from(u8::get(bytes, Barrier::WIDTH * i)).is_ok())
+        (0..bytes.len() / Barrier::WIDTH).all(|i| BarrierType::try_from(u8::get(
+            bytes,
+            Barrier::WIDTH * i,
+        )).is_ok())
     }
 
     ghost some = { Prim.search rules };
