@@ -19,6 +19,16 @@ pub trait Operands: Copy {
     fn lay(self, out: &mut [u8]) -> usize
         requires { total (laid self) ≤ length out.old }
         ensures { Laid (laid self) out.old out.new result };
+
+    /// The same, where it is known how many bytes they take.
+    fn lay_sized(self, size: usize, out: &mut [u8]) -> usize
+        requires size { size ≡ total (laid self) }
+        requires room { total (laid self) ≤ length out.old }
+        ensures { Laid (laid self) out.old out.new result }
+    {
+        let _ = size;
+        self.lay(out)
+    }
 }
 
 impl Operands for () {
@@ -83,6 +93,12 @@ impl<A: Operands, B: Operands> Operands for (A, B) {
         let (a, b) = self;
         let n = a.lay(out);
         n + b.lay(&mut out[n..])
+    }
+
+    fn lay_sized(self, size: usize, out: &mut [u8]) -> usize {
+        let (a, b) = self;
+        let n = a.lay(out);
+        n + b.lay_sized(size - n, &mut out[n..])
     }
 }
 
@@ -192,6 +208,12 @@ impl<T: Entry> Operands for Rows<'_, T> {
         let n = T::WIDTH * self.count();
         lay_front(self.bytes, n, out);
         n
+    }
+
+    // Where there is a byte to write, each row is one, so none is looked at.
+    fn lay_sized(self, size: usize, out: &mut [u8]) -> usize {
+        lay_front(self.bytes, size, out);
+        size
     }
 }
 

@@ -52,7 +52,7 @@ fn append_row<O: Operands>(
         return Err(FULL);
     }
     let row = ((size - 2) as u16, (u8::from(code), operands));
-    let _ = row.lay(&mut bytes[end..]);
+    let _ = row.lay_sized(size, &mut bytes[end..]);
     Ok(end + size)
 }
 
