@@ -7,8 +7,9 @@ ghost use Rattle.board.specs.Boards.{boarded, device_of, halves_of, slot_of, vie
 
 use crate::state::{RootSlot, State, View};
 use command_list::code::Code;
-use command_list::command::{Fixed, Half};
+use command_list::command::{Command, Fixed, Half};
 use command_list::fault::Fault;
+use command_list::record::Record;
 use device::recorder::{Recorder, fitting};
 use list_writer::writer::Recordable;
 
@@ -127,5 +128,17 @@ impl Recorder for Board {
         self.state.step(command);
         self.rest -= bytes;
         Ok(())
+    }
+
+    fn record_fixed(&mut self, fixed: Fixed) -> Result<(), Fault> {
+        self.record(fixed)
+    }
+
+    fn record_given(&mut self, command: Command) -> Result<(), Fault> {
+        self.record(command)
+    }
+
+    fn replay(&mut self, record: Record) -> Result<(), Fault> {
+        self.record(record)
     }
 }

@@ -4,7 +4,9 @@ ghost use Rattle.command_list.specs.Commands.{Command, size};
 ghost use Rattle.device.specs.Meaning.{Anew, Asked, Recorded, sizes, rationed};
 
 use crate::recorder::{Recorder, fitting};
+use command_list::command::{Command, Fixed};
 use command_list::fault::Fault;
+use command_list::record::Record;
 use list_writer::writer::Recordable;
 
 /// A recorder whose records may take so many bytes at most, however much space there is in the
@@ -83,5 +85,17 @@ impl<R: Recorder> Recorder for Ration<R> {
         self.below.record(command)?;
         self.rest -= bytes;
         Ok(())
+    }
+
+    fn record_fixed(&mut self, fixed: Fixed) -> Result<(), Fault> {
+        self.record(fixed)
+    }
+
+    fn record_given(&mut self, command: Command) -> Result<(), Fault> {
+        self.record(command)
+    }
+
+    fn replay(&mut self, record: Record) -> Result<(), Fault> {
+        self.record(record)
     }
 }

@@ -9,11 +9,12 @@ ghost use Rattle.command_list.specs.Commands.{SetRootConstantBufferView, OMSetRe
 ghost use Rattle.command_list.specs.Commands.{ClearRenderTargetView, RSSetViewports};
 ghost use Rattle.command_list.specs.Commands.{RSSetScissorRects, ResourceBarrier, DrawInstanced};
 ghost use Rattle.command_list.specs.Commands.{Dispatch, ExecuteIndirect};
-ghost use Rattle.command_list.specs.Seen.{IsFault, fixed_command};
+ghost use Rattle.command_list.specs.Seen.{IsFault, command_of, fixed_command, given_command};
 ghost use Rattle.device.specs.Meaning.{Meaning, Asked, Anew};
 
 use command_list::command::{Barrier, Command, Fixed, Half};
 use command_list::fault::{FULL, Fault};
+use command_list::record::Record;
 use list_writer::writer::Recordable;
 
 /// `size`, where so many bytes are left; otherwise refused with 10 at place 0.
@@ -68,8 +69,9 @@ fn root_view(half: Half, slot: u8, address: u64) -> Fixed
 /// list file can hold (an operand is out of range, a label has no 0 at its end, the record is too
 /// long) or where its record does not fit; the recorder is then as it was.
 ///
-/// An implementor writes `space`, `start_anew` and `record`. The other functions have the names of
-/// Direct3D's calls, one for each code of the list file, and end in `record`.
+/// An implementor writes `space`, `start_anew` and `record`, and the three functions that make it for
+/// one kind of command each. The other functions have the names of Direct3D's calls, one for each
+/// code of the list file, and end in these.
 pub trait Recorder {
     ghost meaning: { Self → Meaning };
 
@@ -83,27 +85,42 @@ pub trait Recorder {
 
     /// Records a command, given by a caller or read from a list file.
     fn record<C: Recordable>(&mut self, command: C) -> Result<(), Fault>
+    where
+        Self: Sized,
         ensures { Asked (meaning self.old) (C.says command) result (meaning self.new) };
+
+    /// [`Recorder::record`] of a command of a fixed width. It, `record_given` and `replay` are there
+    /// for recorders behind a `dyn` too.
+    fn record_fixed(&mut self, fixed: Fixed) -> Result<(), Fault>
+        ensures { Asked (meaning self.old) (fixed_command fixed) result (meaning self.new) };
+
+    /// [`Recorder::record`] of a command as a caller gives it.
+    fn record_given(&mut self, command: Command) -> Result<(), Fault>
+        ensures { Asked (meaning self.old) (given_command command.entry) result (meaning self.new) };
+
+    /// [`Recorder::record`] of a command that was read.
+    fn replay(&mut self, record: Record) -> Result<(), Fault>
+        ensures { Asked (meaning self.old) (command_of «record».entry) result (meaning self.new) };
 
     /// PIX `BeginEvent` (code 1): `label` in UTF-16 units, of which the last is 0.
     fn begin_event(&mut self, label: &[u16]) -> Result<(), Fault>
         ensures { Asked (meaning self.old) (BeginEvent label.now) result (meaning self.new) }
     {
-        self.record(Command::BeginEvent(label))
+        self.record_given(Command::BeginEvent(label))
     }
 
     /// `EndEvent` (code 2).
     fn end_event(&mut self) -> Result<(), Fault>
         ensures { Asked (meaning self.old) (EndEvent) result (meaning self.new) }
     {
-        self.record(Fixed::EndEvent)
+        self.record_fixed(Fixed::EndEvent)
     }
 
     /// `SetDescriptorHeaps` (code 3): the program's heaps, or none.
     fn set_descriptor_heaps(&mut self, on: bool) -> Result<(), Fault>
         ensures { Asked (meaning self.old) (SetDescriptorHeaps on) result (meaning self.new) }
     {
-        self.record(Fixed::SetDescriptorHeaps(on))
+        self.record_fixed(Fixed::SetDescriptorHeaps(on))
     }
 
     /// `SetGraphicsRootSignature` (code 4).
@@ -112,7 +129,7 @@ pub trait Recorder {
             (SetRootSignature Graphics signature)
             result (meaning self.new) }
     {
-        self.record(root_signature(Half::Graphics, signature))
+        self.record_fixed(root_signature(Half::Graphics, signature))
     }
 
     /// `SetComputeRootSignature` (code 5).
@@ -121,14 +138,14 @@ pub trait Recorder {
             (SetRootSignature Compute signature)
             result (meaning self.new) }
     {
-        self.record(root_signature(Half::Compute, signature))
+        self.record_fixed(root_signature(Half::Compute, signature))
     }
 
     /// `SetPipelineState` (code 6).
     fn set_pipeline_state(&mut self, pipeline: u32) -> Result<(), Fault>
         ensures { Asked (meaning self.old) (SetPipelineState pipeline) result (meaning self.new) }
     {
-        self.record(Fixed::SetPipelineState(pipeline))
+        self.record_fixed(Fixed::SetPipelineState(pipeline))
     }
 
     /// `IASetPrimitiveTopology` (code 7): a `D3D12_PRIMITIVE_TOPOLOGY` by its number.
@@ -137,7 +154,7 @@ pub trait Recorder {
             (IASetPrimitiveTopology topology)
             result (meaning self.new) }
     {
-        self.record(Fixed::IASetPrimitiveTopology(topology))
+        self.record_fixed(Fixed::IASetPrimitiveTopology(topology))
     }
 
     /// `IASetVertexBuffers` (code 8) of one view: `size` and `stride` in bytes, `slot` below 16.
@@ -152,7 +169,7 @@ pub trait Recorder {
             (IASetVertexBuffers slot address size stride)
             result (meaning self.new) }
     {
-        self.record(Fixed::IASetVertexBuffers {
+        self.record_fixed(Fixed::IASetVertexBuffers {
             slot,
             address,
             size,
@@ -171,7 +188,7 @@ pub trait Recorder {
             (SetRoot32BitConstant Graphics slot word value)
             result (meaning self.new) }
     {
-        self.record(root_constant(Half::Graphics, slot, word, value))
+        self.record_fixed(root_constant(Half::Graphics, slot, word, value))
     }
 
     /// `SetComputeRoot32BitConstant` (code 11): `slot` and `word` below 64.
@@ -185,7 +202,7 @@ pub trait Recorder {
             (SetRoot32BitConstant Compute slot word value)
             result (meaning self.new) }
     {
-        self.record(root_constant(Half::Compute, slot, word, value))
+        self.record_fixed(root_constant(Half::Compute, slot, word, value))
     }
 
     /// `SetGraphicsRootDescriptorTable` (code 12): `slot` below 64.
@@ -194,7 +211,7 @@ pub trait Recorder {
             (SetRootDescriptorTable Graphics slot address)
             result (meaning self.new) }
     {
-        self.record(root_table(Half::Graphics, slot, address))
+        self.record_fixed(root_table(Half::Graphics, slot, address))
     }
 
     /// `SetComputeRootDescriptorTable` (code 13): `slot` below 64.
@@ -203,7 +220,7 @@ pub trait Recorder {
             (SetRootDescriptorTable Compute slot address)
             result (meaning self.new) }
     {
-        self.record(root_table(Half::Compute, slot, address))
+        self.record_fixed(root_table(Half::Compute, slot, address))
     }
 
     /// `SetGraphicsRootConstantBufferView` (code 14): `slot` below 64.
@@ -216,7 +233,7 @@ pub trait Recorder {
             (SetRootConstantBufferView Graphics slot address)
             result (meaning self.new) }
     {
-        self.record(root_view(Half::Graphics, slot, address))
+        self.record_fixed(root_view(Half::Graphics, slot, address))
     }
 
     /// `SetComputeRootConstantBufferView` (code 15): `slot` below 64.
@@ -225,7 +242,7 @@ pub trait Recorder {
             (SetRootConstantBufferView Compute slot address)
             result (meaning self.new) }
     {
-        self.record(root_view(Half::Compute, slot, address))
+        self.record_fixed(root_view(Half::Compute, slot, address))
     }
 
     /// `OMSetRenderTargets` (code 16): at most eight handles.
@@ -234,7 +251,7 @@ pub trait Recorder {
             (OMSetRenderTargets targets.now)
             result (meaning self.new) }
     {
-        self.record(Command::OMSetRenderTargets(targets))
+        self.record_given(Command::OMSetRenderTargets(targets))
     }
 
     /// `ClearRenderTargetView` (code 17): `colour` by the bits of four floats.
@@ -245,7 +262,7 @@ pub trait Recorder {
             (slice_index colour 3))
             result (meaning self.new) }
     {
-        self.record(Fixed::ClearRenderTargetView { target, colour })
+        self.record_fixed(Fixed::ClearRenderTargetView { target, colour })
     }
 
     /// `RSSetViewports` (code 20) of one viewport, by the bits of six floats: x, y, width, height,
@@ -257,7 +274,7 @@ pub trait Recorder {
             (slice_index viewport 3) (slice_index viewport 4) (slice_index viewport 5))
             result (meaning self.new) }
     {
-        self.record(Fixed::RSSetViewports(viewport))
+        self.record_fixed(Fixed::RSSetViewports(viewport))
     }
 
     /// `RSSetScissorRects` (code 21) of one rectangle: each side by the bits of an `i32`.
@@ -272,7 +289,7 @@ pub trait Recorder {
             (RSSetScissorRects left top right bottom)
             result (meaning self.new) }
     {
-        self.record(Fixed::RSSetScissorRects {
+        self.record_fixed(Fixed::RSSetScissorRects {
             left,
             top,
             right,
@@ -286,7 +303,7 @@ pub trait Recorder {
             (ResourceBarrier barriers.now)
             result (meaning self.new) }
     {
-        self.record(Command::ResourceBarrier(barriers))
+        self.record_given(Command::ResourceBarrier(barriers))
     }
 
     /// `DrawInstanced` (code 28).
@@ -301,7 +318,7 @@ pub trait Recorder {
             (DrawInstanced vertices instances first_vertex first_instance)
             result (meaning self.new) }
     {
-        self.record(Fixed::DrawInstanced {
+        self.record_fixed(Fixed::DrawInstanced {
             vertices,
             instances,
             first_vertex,
@@ -313,7 +330,7 @@ pub trait Recorder {
     fn dispatch(&mut self, x: u32, y: u32, z: u32) -> Result<(), Fault>
         ensures { Asked (meaning self.old) (Dispatch x y z) result (meaning self.new) }
     {
-        self.record(Fixed::Dispatch { x, y, z })
+        self.record_fixed(Fixed::Dispatch { x, y, z })
     }
 
     /// `ExecuteIndirect` (code 31): `count` draws or dispatches, by `half`, whose operands stand in
@@ -331,7 +348,7 @@ pub trait Recorder {
             (ExecuteIndirect half special count buffer offset)
             result (meaning self.new) }
     {
-        self.record(Fixed::ExecuteIndirect {
+        self.record_fixed(Fixed::ExecuteIndirect {
             half,
             special,
             count,

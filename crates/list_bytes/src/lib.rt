@@ -8,7 +8,9 @@ ghost use Rattle.command_list.specs.Seen.{IsFault};
 ghost use Rattle.device.specs.Meaning.{Anew, Asked};
 ghost use Rattle.list_bytes.specs.Listed.{is_whole, listed, HoldsList, Opened};
 
+use command_list::command::{Command, Fixed};
 use command_list::fault::Fault;
+use command_list::record::Record;
 use device::recorder::Recorder;
 use list_writer::writer::{Recordable, begin};
 
@@ -87,5 +89,19 @@ impl<'a> Recorder for ListBytes<'a> {
     {
         self.len = command.append_to(self.bytes, self.len)?;
         Ok(())
+    }
+
+    #[inline(always)]
+    fn record_fixed(&mut self, fixed: Fixed) -> Result<(), Fault> {
+        self.record(fixed)
+    }
+
+    #[inline(always)]
+    fn record_given(&mut self, command: Command) -> Result<(), Fault> {
+        self.record(command)
+    }
+
+    fn replay(&mut self, record: Record) -> Result<(), Fault> {
+        self.record(record)
     }
 }

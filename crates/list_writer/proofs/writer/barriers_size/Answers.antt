@@ -12,11 +12,11 @@ returns-then-n-gt-MOST_ENTRIES g c =
       sym (readable_barriers es)
           ∙ (elim c.then-n-gt-MOST_ENTRIES.branch [
             | then-n-gt-MOST_ENTRIES-via-then-n-gt-MOST_ENTRIES w ↦
-              ⊎_elim (λ h. and_right _ _ (lt-leb (length es) most_entries (omega (arith, w.if-n-gt-MOST_ENTRIES.true, c.count_if_any-n.ensures h))))
-              (λ h. and_left _ _ (le-ltb 0 (length es) (omega (arith, h))))
-              (cases_lt 0 (length es))
+                ⊎_elim (λ h. and_right _ _ (lt-leb (length es) most_entries (omega (arith, w.if-n-gt-MOST_ENTRIES.true, c.count_if_any-n.ensures h))))
+                (λ h. and_left _ _ (le-ltb 0 (length es) (omega (arith, h))))
+                (cases_lt 0 (length es))
             | then-n-gt-MOST_ENTRIES-via-else-n-gt-MOST_ENTRIES+then-count-eq0 w ↦
-              and_left _ _ (le-ltb 0 (length es) (omega (arith, w.if-count-eq0.true, w.count.ensures)))
+                and_left _ _ (le-ltb 0 (length es) (omega (arith, w.if-count-eq0.true, w.count.ensures)))
           ]),
       (refl, refl),
     )

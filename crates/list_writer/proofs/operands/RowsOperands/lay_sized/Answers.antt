@@ -1,4 +1,4 @@
-use Rattle.std.proofs.Common.{◌≡◌, ◌*◌, [], length, unwrap_or, ◌∙◌, arith}
+use Rattle.std.proofs.Common.{[], unwrap_or, ◌∙◌, arith}
 use Rattle.list_writer.proofs.Rows.{total_entries}
 use Rattle.list_writer.proofs.Parts.{rows_within, rows_laid}
 use Rattle.list_writer.proofs.operands.RowsOperands.lay_sized.Goals as goal
