@@ -1,7 +1,9 @@
 // The same calls at every recorder.
 use board::board::Board;
 use command_list::code::Code;
-use command_list::command::Half;
+use command_list::command::{Command, Fixed, Half};
+use command_list::fault::Fault;
+use command_list::record::{Record, Rows};
 use device::ration::Ration;
 use device::recorder::Recorder;
 use device::together::set_pipeline;
@@ -70,6 +72,30 @@ fn a_ration_is_kept_over_each_recorder(rt: HostRuntime) -> Result<(), Fail> {
 }
 
 const LIST: [u8; 15] = [1, 0, 5, 4, 0, 0, 0, 5, 0, 5, 6, 0, 0, 0, 9];
+
+// Four commands at a recorder behind a `dyn`, and the space that is left.
+fn space_left(recorder: &mut dyn Recorder) -> Result<usize, Fault> {
+    recorder.set_pipeline_state(9)?;
+    recorder.record_fixed(Fixed::EndEvent)?;
+    recorder.record_given(Command::BeginEvent(&[0]))?;
+    recorder.replay(Record::OMSetRenderTargets(Rows::over(&[])))?;
+    Ok(recorder.space())
+}
+
+#[test]
+fn a_recorder_behind_a_dyn(rt: HostRuntime) -> Result<(), Fail> {
+    let mut board = Board::new(100);
+    assert_eq!(rt; space_left(&mut board)?, 81);
+    assert_eq!(rt; board.pipeline(), 9);
+    let mut ration = Ration::new(Board::new(100), 19);
+    assert_eq!(rt; space_left(&mut ration)?, 0);
+    let mut bytes = [0u8; 20];
+    let mut list = ListBytes::new(&mut bytes)?;
+    assert_eq!(rt; space_left(&mut list)?, 0);
+    let records = [0, 5, 6, 0, 0, 0, 9, 0, 1, 2, 0, 3, 1, 0, 0, 0, 2, 16, 0];
+    assert!(rt; list.list().get(1..) == Some(records.as_slice()));
+    Ok(())
+}
 
 #[test]
 fn a_list_is_played_whole_or_not_at_all(rt: HostRuntime) -> Result<(), Fail> {
