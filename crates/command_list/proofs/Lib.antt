@@ -3,3 +3,4 @@ pub mod Runs
 pub mod Refusing
 pub mod Fronts
 pub mod RowPlaces
+pub mod Types

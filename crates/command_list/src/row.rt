@@ -184,12 +184,18 @@ impl Row for Barrier {
         }
     }
 
-    // Only the byte of each entry's type is looked at.
+    // Only the byte of each entry's type is looked at. A chain over the entries takes half as long
+    // again.
     fn are_rows(bytes: &[u8]) -> bool {
-        (0..bytes.len() / Barrier::WIDTH).all(|i| BarrierType::try_from(u8::get(
-            bytes,
-            Barrier::WIDTH * i,
-        )).is_ok())
+        let end = bytes.len() / Barrier::WIDTH * Barrier::WIDTH;
+        let mut at = 0;
+        while at < end {
+            if bytes[at] != 0 && bytes[at] != 2 {
+                return false;
+            }
+            at += Barrier::WIDTH;
+        }
+        true
     }
 
     ghost some = { Prim.search rules };
