@@ -69,8 +69,8 @@ fn root_view(half: Half, slot: u8, address: u64) -> Fixed
 /// list file can hold (an operand is out of range, a label has no 0 at its end, the record is too
 /// long) or where its record does not fit; the recorder is then as it was.
 ///
-/// An implementor writes `space`, `start_anew` and `record`, and the three functions that make it for
-/// one kind of command each. The other functions have the names of Direct3D's calls, one for each
+/// An implementor writes `space`, `start_anew` and `record`, and the three functions that hand it a
+/// command of one type each. The other functions have the names of Direct3D's calls, one for each
 /// code of the list file, and end in these.
 pub trait Recorder {
     ghost meaning: { Self → Meaning };

@@ -16,10 +16,10 @@ use command_list::row::Row;
 // The most units of a label, since two bytes tell the length of a record.
 const MOST_UNITS: usize = 65534 / u16::WIDTH;
 
-// The most targets.
+// The most render targets.
 const MOST_TARGETS: usize = 8;
 
-// The most entries of a resource barrier, as of a label's units.
+// The most entries of a resource barrier, for the same reason.
 const MOST_ENTRIES: usize = 65534 / Barrier::WIDTH;
 
 /// Begins a list with its version byte, and says where it ends. No bytes, or more than a list may
